@@ -1,0 +1,16 @@
+-- What a shared library stands for, once its file was read: plain data.
+use Rattle.std.specs.Prelude.{ℕ, Bool, List, Option}
+use Rattle.ifs_bytes.specs.declared.form.Order.{Order}
+use Rattle.ifs_bytes.specs.declared.form.Width.{Width}
+use Rattle.ifs_interface.specs.declared.row.DynRow.{DynRow}
+
+-- machine is e_machine; soname and needed are DT_SONAME and the DT_NEEDED names; rows are the visible rows
+-- of the dynamic symbol table, in its order; versioned says that the library defines symbol versions
+pub record LibraryRecord : Type 0 where
+  pub machine : ℕ
+  pub order : Order
+  pub width : Width
+  pub soname : Option (List ℕ)
+  pub needed : List (List ℕ)
+  pub rows : List DynRow
+  pub versioned : Bool
