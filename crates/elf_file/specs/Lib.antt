@@ -1,0 +1,4 @@
+pub mod ElfFile
+pub mod Header
+pub mod Printed
+pub mod Tables
