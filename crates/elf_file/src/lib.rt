@@ -20,6 +20,7 @@ mod symbol;
 pub use cause::{ElfCause, NamePlace};
 pub use dynamic::{Dyn, dyn_at, dynamic_entry_at};
 pub use elf::Elf;
+pub use fields::has_room;
 pub use header::Header;
 pub use section::SectionHeader;
 pub use segment::Segment;

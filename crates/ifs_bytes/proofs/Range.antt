@@ -3,10 +3,7 @@ use Rattle.std.proofs.Common.{◌≡◌, ℕ, suc, ◌+◌, ◌-◌, ◌<◌, �
 use Rattle.std.proofs.lemmas.List.Sums.{sum_by-cons}
 use Rattle.std.specs.List.{find, filter_map, cons_option, range_with_len, sum_by}
 use Rattle.std.specs.Option.{option_to_list}
-
--- the places from i to before n
-abbrev pub places : ℕ → ℕ → List ℕ
-places i n = range_with_len i (n - i)
+use Rattle.ifs_bytes.specs.Places.{places}
 
 pub places_more : (i n : ℕ) → i < n → places i n ≡ i ∷ places (i + 1) n
 places_more i n h = let e : n - i ≡ suc (n - (i + 1)) = omega arith in ap (range_with_len i) e
