@@ -4,5 +4,6 @@
 mod constants;
 mod entries;
 mod places;
+mod rows;
 mod segments;
 mod strings;
