@@ -12,11 +12,18 @@ use Rattle.elf_dyn.specs.declared.constants.TheConstants.{ET_DYN, SHT_DYNAMIC, S
 use Rattle.elf_dyn.specs.Sections.{first_section, places_by_sections}
 use Rattle.elf_dyn.specs.Segments.{places_by_segments}
 use Rattle.elf_dyn.specs.Entries as entries
-use Rattle.elf_dyn.specs.Entries.{entry_count, bad_entry, soname_of, needed_of, needed_count, defines_versions}
+use Rattle.elf_dyn.specs.Entries.{EntriesLie, entry_count, bad_entry, soname_of, needed_of, needed_count, defines_versions}
 use Rattle.elf_dyn.specs.Hash.{carried}
 use Rattle.elf_dyn.specs.Rows as rows
-use Rattle.elf_dyn.specs.Rows.{candidate_count, bad_row, candidate_bytes, visible_rows}
-use Rattle.elf_dyn.specs.Strings.{bytes_of}
+use Rattle.elf_dyn.specs.Rows.{RowsLie, candidate_count, bad_row, candidate_bytes, visible_rows}
+use Rattle.elf_dyn.specs.Strings.{StringsLie, bytes_of}
+
+-- all of the parts lie in the file
+pub record PlacesLie (file : List ℕ) (p : Places) : Type 0 where
+  pub entries_lie : EntriesLie file p.entries
+  pub entry_strings_lie : StringsLie file p.entry_strings
+  pub rows_lie : RowsLie file p.rows
+  pub row_strings_lie : StringsLie file p.row_strings
 
 -- by sections where both are there, else by segments
 abbrev pub places_by : List ℕ → Header → Option SectionHeader → Option SectionHeader → Result Places ElfCause

@@ -5,5 +5,6 @@ mod constants;
 mod entries;
 mod places;
 mod rows;
+mod sections;
 mod segments;
 mod strings;

@@ -1,12 +1,15 @@
 //! Entries of dynamic tables (gABI, "Dynamic Section").
 
-ghost use Rattle.std.specs.Prelude.{◌≡◌, ◌+◌, ◌≤◌, length, Some, None, if◌then◌else◌};
+ghost use Rattle.std.specs.Prelude.{◌≡◌, ◌+◌, ◌≤◌, length, is_ok, Some, None, if◌then◌else◌};
 ghost use Rattle.ifs_bytes.specs.Field.{lies};
+ghost use Rattle.ifs_bytes.specs.Outcome.{appended};
 ghost use Rattle.elf_file.specs.Tables.{dynamic_size, dynamic_at};
+ghost use Rattle.elf_file.specs.Written.{FitsDyn, dynamic_bytes};
 
 use crate::fields::has_room;
+use crate::put::{put_fields, word};
 use crate::sizes;
-use ifs_bytes::{Order, Width, word_at};
+use ifs_bytes::{Memory, Order, Width, word_at};
 
 /// A dynamic entry, Elf32_Dyn or Elf64_Dyn.
 #[derive(Clone, Copy, Debug, PartialEq, Eq)]
@@ -38,4 +41,14 @@ pub fn dyn_at(bytes: &[u8], at: u64, order: Order, width: Width) -> Option<Dyn>
     } else {
         None
     }
+}
+
+/// Appends an entry, whose values fit their fields; where memory runs out `out` stays as it was.
+#[tactic(auto, unfolding(crate::specs::Written::dynamic_bytes))]
+pub fn put_dyn(out: &mut Vec<u8>, d: &Dyn, order: Order, width: Width) -> Result<(), Memory>
+    requires { FitsDyn d.now width }
+    ensures { out.new.items ≡ appended (is_ok result) out.old.items (dynamic_bytes d.now order width) }
+{
+    let fields = [word(d.tag, width), word(d.value, width)];
+    put_fields(out, &fields, order)
 }

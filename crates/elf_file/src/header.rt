@@ -1,16 +1,19 @@
 //! The file header (gABI, "ELF Header").
 
-ghost use Rattle.std.specs.Prelude.{◌≡◌, ◌+◌, ◌*◌, ◌≤◌, length, IfOk};
+ghost use Rattle.std.specs.Prelude.{◌≡◌, ◌+◌, ◌*◌, ◌≤◌, length, is_ok, IfOk};
+ghost use Rattle.ifs_bytes.specs.Outcome.{appended};
 ghost use Rattle.elf_file.specs.ElfFile.{HeaderFits};
 ghost use Rattle.elf_file.specs.Header as meant;
 ghost use Rattle.elf_file.specs.Tables as tables;
+ghost use Rattle.elf_file.specs.Written.{FitsHeader, header_bytes, ident_bytes};
 
 use crate::cause::ElfCause;
 use crate::fields::{FileHeader, file_header_at, has_room};
 use crate::form::Form;
+use crate::put::{Field, put_fields, word};
 use crate::section::section_header_at;
 use crate::sizes::{header_size, section_size, segment_size};
-use ifs_bytes::{Order, Width};
+use ifs_bytes::{Memory, Order, Width};
 
 /// What the file header says. The numbers of program and section headers are those that count, whichever
 /// field they stand in.
@@ -173,4 +176,53 @@ pub fn header_of(file: &[u8]) -> Result<Header, ElfCause>
     }
     let fields = file_header_at(file, 0, form.order, form.width);
     tables_of(file, &fields, form)
+}
+
+// The bytes of e_ident.
+fn ident(order: Order, width: Width) -> [u8; 16]
+    ensures { result ≡ ident_bytes order width }
+{
+    let class = match width {
+        Width::W32 => 1,
+        Width::W64 => 2,
+    };
+    let code = match order {
+        Order::Little => 1,
+        Order::Big => 2,
+    };
+    [
+        0x7f, b'E', b'L', b'F', class, code, 1, 0, 0, 0, 0, 0, 0, 0, 0, 0,
+    ]
+}
+
+/// Appends the file header of a file with these tables, whose values fit their fields; where memory runs
+/// out `out` stays as it was. e_flags and what stands behind EI_VERSION are 0.
+#[tactic(auto, unfolding(crate::specs::Written::header_bytes))]
+pub fn put_header(out: &mut Vec<u8>, header: &Header) -> Result<(), Memory>
+    requires { FitsHeader header.now }
+    ensures { out.new.items ≡ appended (is_ok result) out.old.items (header_bytes header.now) }
+{
+    let width = header.width;
+    let fields = [
+        Field::Two(header.kind),
+        Field::Two(header.machine),
+        Field::Four(1),
+        word(header.entry_point, width),
+        word(header.phoff, width),
+        word(header.shoff, width),
+        Field::Four(0),
+        Field::Two(header_size(width) as u16),
+        Field::Two(segment_size(width) as u16),
+        Field::Two(header.phnum as u16),
+        Field::Two(section_size(width) as u16),
+        Field::Two(header.shnum as u16),
+        Field::Two(header.shstrndx as u16),
+    ];
+    let start = out.len();
+    out.extend_from_slice(&ident(header.order, width))?;
+    let done = put_fields(out, &fields, header.order);
+    if done.is_err() {
+        out.truncate(start);
+    }
+    done
 }

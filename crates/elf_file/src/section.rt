@@ -1,9 +1,12 @@
 //! Section headers (gABI, "Section Header").
 
-ghost use Rattle.std.specs.Prelude.{◌≡◌, ◌+◌, ◌≤◌, length};
+ghost use Rattle.std.specs.Prelude.{◌≡◌, ◌+◌, ◌≤◌, length, is_ok};
+ghost use Rattle.ifs_bytes.specs.Outcome.{appended};
 ghost use Rattle.elf_file.specs.Tables.{section_size, section_header_at};
+ghost use Rattle.elf_file.specs.Written.{FitsSection, section_bytes};
 
-use ifs_bytes::{Order, Width, u32_at, word_at};
+use crate::put::{Field, put_fields, word};
+use ifs_bytes::{Memory, Order, Width, u32_at, word_at};
 
 /// A section header, Elf32_Shdr or Elf64_Shdr.
 #[derive(Clone, Copy, Debug, PartialEq, Eq)]
@@ -49,4 +52,30 @@ pub fn section_header_at(bytes: &[u8], at: usize, order: Order, width: Width) ->
         align: word_at(bytes, at + (16 + 4 * w), order, width),
         entsize: word_at(bytes, at + (16 + 5 * w), order, width),
     }
+}
+
+/// Appends a section header, whose values fit their fields; where memory runs out `out` stays as it was.
+#[tactic(auto, unfolding(crate::specs::Written::section_bytes))]
+pub fn put_section(
+    out: &mut Vec<u8>,
+    s: &SectionHeader,
+    order: Order,
+    width: Width,
+) -> Result<(), Memory>
+    requires { FitsSection s.now width }
+    ensures { out.new.items ≡ appended (is_ok result) out.old.items (section_bytes s.now order width) }
+{
+    let fields = [
+        Field::Four(s.name),
+        Field::Four(s.kind),
+        word(s.flags, width),
+        word(s.addr, width),
+        word(s.offset, width),
+        word(s.size, width),
+        Field::Four(s.link),
+        Field::Four(s.info),
+        word(s.align, width),
+        word(s.entsize, width),
+    ];
+    put_fields(out, &fields, order)
 }

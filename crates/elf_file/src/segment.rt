@@ -1,10 +1,13 @@
 //! Program headers (gABI, "Program Header").
 
-ghost use Rattle.std.specs.Prelude.{◌≡◌, ◌+◌, ◌≤◌, length};
+ghost use Rattle.std.specs.Prelude.{◌≡◌, ◌+◌, ◌≤◌, length, is_ok};
+ghost use Rattle.ifs_bytes.specs.Outcome.{appended};
 ghost use Rattle.elf_file.specs.Tables.{segment_size, segment_at};
+ghost use Rattle.elf_file.specs.Written.{FitsSegment, segment_bytes};
 
+use crate::put::{Field, put_fields, word};
 use crate::sizes::{align_place, flags_place};
-use ifs_bytes::{Order, Width, u32_at, word_at};
+use ifs_bytes::{Memory, Order, Width, u32_at, word_at};
 
 /// A program header, Elf32_Phdr or Elf64_Phdr.
 #[derive(Clone, Copy, Debug, PartialEq, Eq)]
@@ -44,4 +47,25 @@ pub fn segment_at(bytes: &[u8], at: usize, order: Order, width: Width) -> Segmen
         memsz: word_at(bytes, at + 5 * w, order, width),
         align: word_at(bytes, at + align_place(width), order, width),
     }
+}
+
+/// Appends a program header, whose values fit their fields; where memory runs out `out` stays as it was.
+#[tactic(auto, unfolding(crate::specs::Written::segment_bytes))]
+pub fn put_segment(out: &mut Vec<u8>, s: &Segment, order: Order, width: Width) -> Result<(), Memory>
+    requires { FitsSegment s.now width }
+    ensures { out.new.items ≡ appended (is_ok result) out.old.items (segment_bytes s.now order width) }
+{
+    let kind = Field::Four(s.kind);
+    let flags = Field::Four(s.flags);
+    let offset = word(s.offset, width);
+    let vaddr = word(s.vaddr, width);
+    let paddr = word(s.paddr, width);
+    let filesz = word(s.filesz, width);
+    let memsz = word(s.memsz, width);
+    let align = word(s.align, width);
+    let fields = match width {
+        Width::W32 => [kind, offset, vaddr, paddr, filesz, memsz, flags, align],
+        Width::W64 => [kind, flags, offset, vaddr, paddr, filesz, memsz, align],
+    };
+    put_fields(out, &fields, order)
 }

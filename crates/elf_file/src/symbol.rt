@@ -1,13 +1,16 @@
 //! Rows of symbol tables (gABI, "Symbol Table").
 
-ghost use Rattle.std.specs.Prelude.{◌≡◌, ◌+◌, ◌≤◌, length, Some, None, if◌then◌else◌};
+ghost use Rattle.std.specs.Prelude.{◌≡◌, ◌+◌, ◌≤◌, length, is_ok, Some, None, if◌then◌else◌};
 ghost use Rattle.ifs_bytes.specs.Field.{lies};
+ghost use Rattle.ifs_bytes.specs.Outcome.{appended};
 ghost use Rattle.elf_file.specs.Tables.{symbol_size, symbol_at};
+ghost use Rattle.elf_file.specs.Written.{FitsRow, symbol_bytes};
 
 use crate::fields::{byte_at, has_room};
+use crate::put::{Field, put_fields, word};
 use crate::sizes;
 use crate::sizes::info_place;
-use ifs_bytes::{Order, Width, u16_at, u32_at, word_at};
+use ifs_bytes::{Memory, Order, Width, u16_at, u32_at, word_at};
 
 /// A row of a symbol table, Elf32_Sym or Elf64_Sym.
 #[derive(Clone, Copy, Debug, PartialEq, Eq)]
@@ -53,4 +56,23 @@ pub fn row_at(bytes: &[u8], at: u64, order: Order, width: Width) -> Option<Row>
     } else {
         None
     }
+}
+
+/// Appends a row, whose values fit their fields; where memory runs out `out` stays as it was.
+#[tactic(auto, unfolding(crate::specs::Written::symbol_bytes))]
+pub fn put_row(out: &mut Vec<u8>, r: &Row, order: Order, width: Width) -> Result<(), Memory>
+    requires { FitsRow r.now width }
+    ensures { out.new.items ≡ appended (is_ok result) out.old.items (symbol_bytes r.now order width) }
+{
+    let name = Field::Four(r.name);
+    let info = Field::One(r.info);
+    let other = Field::One(r.other);
+    let shndx = Field::Two(r.shndx);
+    let value = word(r.value, width);
+    let size = word(r.size, width);
+    let fields = match width {
+        Width::W32 => [name, value, size, info, other, shndx],
+        Width::W64 => [name, info, other, shndx, value, size],
+    };
+    put_fields(out, &fields, order)
 }
