@@ -47,24 +47,28 @@ unfoldable pub chain_length : List ℕ → Order → ℕ → Result ℕ ElfCause
 chain_length file order from =
     through file order from (find (λ i. ends_chain file order (from + 4 * i)) (places 0 (length file + 1)))
 
--- the number of rows, where first is the first hashed row, chains is where its chain word stands, and each
--- bucket begins a chain
-unfoldable pub rows_by_chains : List ℕ → Order → ℕ → ℕ → List ℕ → Result ℕ ElfCause
-rows_by_chains file order first chains buckets =
-    if list_all (λ b. nat_lt b first) buckets
+-- the number of rows, where first is the first hashed row, chains is where its chain word stands, and
+-- greatest is the greatest bucket: the row that begins the last chain, unless all buckets are below first
+unfoldable pub rows_by_chains : List ℕ → Order → ℕ → ℕ → ℕ × Bool → Result ℕ ElfCause
+rows_by_chains file order first chains (greatest, all_below) =
+    if all_below
     then Ok first
-    else (do
-      let greatest = fold max 0 buckets
-      more ← chain_length file order (chains + 4 * (greatest - first))
-      Ok (greatest + more))
+    else (chain_length file order (chains + 4 * (greatest - first)) >>= λ more. Ok (greatest + more))
+
+-- the greatest of these buckets, and whether all are below the first hashed row
+abbrev pub summary : ℕ → List ℕ → ℕ × Bool
+summary first buckets = (fold max 0 buckets, list_all (λ b. nat_lt b first) buckets)
+
+-- the same of the buckets from an offset on
+abbrev pub buckets_in : List ℕ → Order → ℕ → ℕ → ℕ → Result (ℕ × Bool) ElfCause
+buckets_in file order at count first = words_in file order at count >>= λ buckets. Ok (summary first buckets)
 
 -- the number of rows by the GNU table at an offset: the number of buckets, the first hashed row, the number
--- of Bloom words, a shift; the Bloom words, the buckets, the chain words
+-- of Bloom words, a shift; then the Bloom words, the buckets, the chain words
 unfoldable pub rows_by_gnu_hash : List ℕ → Order → Width → ℕ → Result ℕ ElfCause
 rows_by_gnu_hash file order width at = do
   count ← word_in file order at
   first ← word_in file order (at + 4)
   blooms ← word_in file order (at + 8)
-  let start = at + 16 + blooms * word_size width
-  buckets ← words_in file order start count
-  rows_by_chains file order first (start + 4 * count) buckets
+  buckets ← buckets_in file order (at + 16 + blooms * word_size width) count first
+  rows_by_chains file order first (at + 16 + blooms * word_size width + 4 * count) buckets

@@ -15,9 +15,9 @@ use Rattle.elf_file.specs.declared.segment.Segment.{Segment}
 use Rattle.elf_dyn.specs.declared.places.Entries.{Entries}
 use Rattle.elf_dyn.specs.declared.places.Rows.{Rows}
 use Rattle.elf_dyn.specs.declared.places.Strings.{Strings}
-use Rattle.elf_dyn.specs.declared.segments.Addresses.{Addresses}
-use Rattle.elf_dyn.specs.declared.segments.HashTable.{HashTable}
-use Rattle.elf_dyn.specs.declared.segments.HashTable.TheVariants.{SysV, Gnu}
+use Rattle.elf_dyn.specs.declared.addresses.Addresses.{Addresses}
+use Rattle.elf_dyn.specs.declared.addresses.HashTable.{HashTable}
+use Rattle.elf_dyn.specs.declared.addresses.HashTable.TheVariants.{SysV, Gnu}
 use Rattle.elf_dyn.specs.declared.places.Places.{Places}
 use Rattle.elf_dyn.specs.declared.constants.TheConstants.{PT_LOAD, PT_DYNAMIC, DT_HASH, DT_STRTAB, DT_SYMTAB, DT_STRSZ, DT_GNU_HASH}
 use Rattle.elf_dyn.specs.Entries.{entry_count, value_with}
@@ -26,6 +26,10 @@ use Rattle.elf_dyn.specs.Hash.{carried, rows_by_hash, rows_by_gnu_hash}
 -- the first segment that passes
 abbrev pub first_segment : List ℕ → Header → (Segment → Bool) → Option Segment
 first_segment file h test = option_map (segment_in file h) (find (λ i. test (segment_in file h i)) (places 0 h.phnum))
+
+-- PT_DYNAMIC has the dynamic entries
+abbrev pub is_dynamic : Segment → Bool
+is_dynamic segment = segment.kind == PT_DYNAMIC
 
 -- PT_LOAD gives an address bytes of the file
 abbrev pub holds : ℕ → Segment → Bool
@@ -77,7 +81,7 @@ rows_by_address file h a count = do
 -- the dynamic entries: the first PT_DYNAMIC, which lies in the file
 unfoldable pub entries_by_segment : List ℕ → Header → Result Entries ElfCause
 entries_by_segment file h = do
-  segment ← ok_or (first_segment file h (λ s. s.kind == PT_DYNAMIC)) NoDynamic
+  segment ← ok_or (first_segment file h is_dynamic) NoDynamic
   _ ← check (lies file segment.offset segment.filesz) (Truncated segment.offset)
   Ok (record { order = h.order; width = h.width; from = segment.offset; room = segment.filesz / dynamic_size h.width })
 

@@ -62,6 +62,18 @@ pub fn first_with(bytes: &[u8], entries: Entries, count: u64, tag: u64) -> Optio
     None
 }
 
+/// The value of the first entry with a tag, of the `count` that count.
+pub fn value_with(bytes: &[u8], entries: Entries, count: u64, tag: u64) -> Option<u64>
+    requires lie { EntriesLie bytes.now entries }
+    requires within { count ≤ entries.room }
+    ensures { result ≡ value_with bytes.now entries count tag }
+{
+    match first_with(bytes, entries, count, tag) {
+        Some(i) => Some(entry(bytes, entries, i).value),
+        None => None,
+    }
+}
+
 // Whether entry `i` is named, where the first DT_SONAME stands at `soname`, and its name is bad.
 fn is_bad(bytes: &[u8], entries: Entries, strings: Strings, soname: Option<u64>, i: u64) -> bool
     requires lie { EntriesLie bytes.now entries }

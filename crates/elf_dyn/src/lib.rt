@@ -1,8 +1,10 @@
 //! The reader of shared libraries.
 #![tactic(auto)]
 
+mod addresses;
 mod constants;
 mod entries;
+mod hash;
 mod places;
 mod rows;
 mod sections;
