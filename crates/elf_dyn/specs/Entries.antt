@@ -1,6 +1,6 @@
 -- The dynamic entries (gABI, "Dynamic Section"). They count up to the first DT_NULL, or to the end of their
 -- table. Of DT_SONAME and of each address the first entry counts; every DT_NEEDED counts.
-use Rattle.std.specs.Prelude.{ℕ, ◌+◌, ◌*◌, ◌≤◌, Bool, false, ◌==◌, ◌&&◌, ◌||◌, if◌then◌else◌, List, length, Option, Some, None, is_none, is_some, option_map, option_and_then, unwrap_or, Result, Ok, Err, count_by}
+use Rattle.std.specs.Prelude.{ℕ, ◌+◌, ◌*◌, ◌≤◌, Bool, false, ◌==◌, ◌&&◌, ◌||◌, if◌then◌else◌, List, length, Option, Some, None, is_none, is_some, option_map, option_and_then, unwrap_or, Result, Ok, Err, count_by, sum_by}
 use Rattle.std.specs.List.{find, filter_map}
 use Rattle.ifs_bytes.specs.Places.{places}
 use Rattle.elf_file.specs.Tables.{dynamic_size, dynamic_at}
@@ -11,7 +11,7 @@ use Rattle.elf_file.specs.declared.dynamic.Dyn.{Dyn}
 use Rattle.elf_dyn.specs.declared.places.Entries.{Entries}
 use Rattle.elf_dyn.specs.declared.places.Strings.{Strings}
 use Rattle.elf_dyn.specs.declared.constants.TheConstants.{DT_NULL, DT_NEEDED, DT_SONAME, DT_VERDEF}
-use Rattle.elf_dyn.specs.Strings.{name_of, unless_empty}
+use Rattle.elf_dyn.specs.Strings.{name_of, unless_empty, bytes_of}
 
 -- all entries for which there is room lie in the file
 abbrev pub EntriesLie : List ℕ → Entries → Type 0
@@ -65,6 +65,10 @@ needed_at file e strings i = if (entry file e i).tag == DT_NEEDED then unless_em
 -- the needed libraries, in order
 unfoldable pub needed_of : List ℕ → Entries → Strings → ℕ → List (List ℕ)
 needed_of file e strings n = filter_map (needed_at file e strings) (places 0 n)
+
+-- how many bytes their names have together
+unfoldable pub needed_bytes : List ℕ → Entries → Strings → ℕ → ℕ
+needed_bytes file e strings n = sum_by (λ i. bytes_of (needed_at file e strings i)) (places 0 n)
 
 -- how many entries are DT_NEEDED
 unfoldable pub needed_count : List ℕ → Entries → ℕ → ℕ

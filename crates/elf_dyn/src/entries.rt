@@ -2,12 +2,13 @@
 
 ghost use Rattle.std.specs.Prelude.{◌≡◌, ◌==◌, ◌&&◌, ◌<◌, ◌≤◌, ◌++◌, is_none, IfOk, IfSome, OnOk, Result};
 ghost use Rattle.std.specs.Option.{option_copied, option_to_list};
-ghost use Rattle.elf_dyn.specs.Entries.{EntriesLie, entry, entry_name, is_named, is_place, entry_count, first_with, value_with, bad_entry, unless_bad, soname_of, needed_at, needed_of, needed_count};
-ghost use Rattle.elf_dyn.specs.Strings.{StringsLie};
+ghost use Rattle.elf_dyn.specs.Entries.{EntriesLie, entry, entry_name, is_named, is_place, entry_count, first_with, value_with, bad_entry, unless_bad, soname_of, needed_at, needed_of, needed_bytes, needed_count};
+ghost use Rattle.elf_dyn.specs.Hash.{carried};
+ghost use Rattle.elf_dyn.specs.Strings.{StringsLie, bytes_of};
 
 use crate::constants::{DT_NEEDED, DT_NULL, DT_SONAME};
 use crate::places::{Entries, Strings};
-use crate::strings::{name_of, unless_empty};
+use crate::strings::{name_of, size_of, unless_empty};
 use elf_file::{Dyn, ElfCause, NamePlace, dynamic_entry_at, dynamic_size};
 use ifs_bytes::{Memory, Text};
 use std::alloc::Global;
@@ -192,12 +193,38 @@ pub fn needed_of(
     Ok(names)
 }
 
+// How many bytes the name of entry `i` has, where that is DT_NEEDED.
+fn needed_size(bytes: &[u8], entries: Entries, strings: Strings, i: u64) -> u64
+    requires lie { EntriesLie bytes.now entries }
+    requires strings_lie { StringsLie bytes.now strings }
+    requires within { i < entries.room }
+    ensures { result ≡ bytes_of (needed_at bytes.now entries strings i) }
+{
+    size_of(needed_at(bytes, entries, strings, i))
+}
+
+/// How many bytes the names of the needed libraries have together; 2^64 - 1 stands for any more.
+#[tactic(auto, unfolding(crate::specs::Entries::needed_bytes), using(ifs_bytes::proofs::Range::sum_more, ifs_bytes::proofs::Range::sum_end))]
+pub fn needed_bytes(bytes: &[u8], entries: Entries, strings: Strings, count: u64) -> u64
+    requires lie { EntriesLie bytes.now entries }
+    requires strings_lie { StringsLie bytes.now strings }
+    requires within { count ≤ entries.room }
+    ensures { result ≡ carried (needed_bytes bytes.now entries strings count) }
+{
+    let mut total = 0u64;
+    for i in 0..count {
+        total = total.saturating_add(needed_size(bytes, entries, strings, i));
+    }
+    total
+}
+
 /// How many entries are DT_NEEDED.
 #[tactic(auto, unfolding(crate::specs::Entries::needed_count), using(ifs_bytes::proofs::Range::count_more, ifs_bytes::proofs::Range::count_end))]
 pub fn needed_count(bytes: &[u8], entries: Entries, count: u64) -> u64
     requires lie { EntriesLie bytes.now entries }
     requires within { count ≤ entries.room }
-    ensures { result ≡ needed_count bytes.now entries count }
+    ensures exact { result ≡ needed_count bytes.now entries count }
+    ensures within { result ≤ count }
 {
     let mut total = 0;
     for i in 0..count {

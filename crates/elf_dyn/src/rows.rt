@@ -1,6 +1,6 @@
 //! The rows of the dynamic symbol table (gABI, "Symbol Table").
 
-ghost use Rattle.std.specs.Prelude.{◌≡◌, ◌&&◌, ◌<◌, ◌+◌, ◌++◌, is_none, option_map, IfOk, OnOk, Result};
+ghost use Rattle.std.specs.Prelude.{◌≡◌, ◌&&◌, ◌<◌, ◌≤◌, ◌+◌, ◌++◌, is_none, option_map, IfOk, OnOk, Result};
 ghost use Rattle.std.specs.Option.{option_copied, option_to_list};
 ghost use Rattle.elf_dyn.specs.Hash.{carried};
 ghost use Rattle.elf_dyn.specs.Rows.{RowsLie, row, row_name, binding_of, type_of, is_candidate, candidate_count, bad_row, unless_bad, candidate_size, candidate_bytes, named_row, visible_row, visible_rows};
@@ -8,7 +8,7 @@ ghost use Rattle.elf_dyn.specs.Strings.{StringsLie};
 
 use crate::constants::{STB_LOCAL, STV_DEFAULT, STV_PROTECTED};
 use crate::places::{Rows, Strings};
-use crate::strings::{name_of, unless_empty};
+use crate::strings::{name_of, size_of, unless_empty};
 use elf_file::{ElfCause, NamePlace, Row, symbol_row_at, symbol_size};
 use ifs_bytes::{Memory, Text};
 use ifs_interface::DynRow;
@@ -45,7 +45,8 @@ fn is_candidate_at(bytes: &[u8], rows: Rows, i: u64) -> bool
 #[tactic(auto, unfolding(crate::specs::Rows::candidate_count), using(ifs_bytes::proofs::Range::count_more, ifs_bytes::proofs::Range::count_end))]
 pub fn candidate_count(bytes: &[u8], rows: Rows) -> u64
     requires { RowsLie bytes.now rows }
-    ensures { result ≡ candidate_count bytes.now rows }
+    ensures exact { result ≡ candidate_count bytes.now rows }
+    ensures within { result ≤ rows.count }
 {
     let mut total = 0;
     for i in 1..rows.count {
@@ -106,10 +107,7 @@ fn candidate_size(bytes: &[u8], rows: Rows, strings: Strings, i: u64) -> u64
     if !is_candidate(row) {
         return 0;
     }
-    match name_of(bytes, strings, u64::from(row.name)) {
-        Some(name) => name.len() as u64,
-        None => 0,
-    }
+    size_of(name_of(bytes, strings, u64::from(row.name)))
 }
 
 /// How many bytes the names of the candidates have together; 2^64 - 1 stands for any more.

@@ -2,7 +2,7 @@
 
 ghost use Rattle.std.specs.Prelude.{◌≡◌};
 ghost use Rattle.std.specs.Option.{option_copied};
-ghost use Rattle.elf_dyn.specs.Strings.{StringsLie, name_of, unless_empty};
+ghost use Rattle.elf_dyn.specs.Strings.{StringsLie, name_of, unless_empty, bytes_of};
 
 use crate::places::Strings;
 use ifs_bytes::name_at;
@@ -26,5 +26,15 @@ pub fn unless_empty(name: Option<&[u8]>) -> Option<&[u8]>
         None => None,
         Some([]) => None,
         Some(bytes) => Some(bytes),
+    }
+}
+
+/// How many bytes the name has, if there is one.
+pub fn size_of(name: Option<&[u8]>) -> u64
+    ensures { result ≡ bytes_of (option_copied name.entry) }
+{
+    match name {
+        Some(bytes) => bytes.len() as u64,
+        None => 0,
     }
 }

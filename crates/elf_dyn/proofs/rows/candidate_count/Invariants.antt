@@ -1,4 +1,4 @@
-use Rattle.std.proofs.Common.{◌≡◌, ◌+◌, ◌<◌, ℕ}
+use Rattle.std.proofs.Common.{◌≡◌, ◌+◌, ◌≤◌, ℕ}
 use Rattle.std.specs.Prelude.{count_by}
 use Rattle.ifs_bytes.specs.Places.{places}
 use Rattle.elf_dyn.specs.Rows.{row, is_candidate}
@@ -9,5 +9,6 @@ invariant-loop-i l =
     let test = λ (i : ℕ). is_candidate (row l.bytes l.rows i) in
     record {
       counted : l.total + count_by test (places l.i l.rows.count) ≡ count_by test (places 1 l.rows.count);
-      bounded : l.total < l.i;
+      bounded : l.total ≤ l.i;
+      within : l.total ≤ l.rows.count;
     }
