@@ -26,3 +26,6 @@ pub use section::{SectionHeader, put_section};
 pub use segment::{Segment, put_segment};
 pub use sizes::{dynamic_size, header_size, section_size, segment_size, symbol_size};
 pub use symbol::{Row, put_row, row_at, symbol_row_at};
+
+#[cfg(test)]
+mod tests;
