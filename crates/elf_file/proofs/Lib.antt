@@ -1,2 +1,3 @@
 pub mod ByWord
-pub mod Laws
+pub mod ReadBack
+pub mod HeaderLaws

@@ -4,3 +4,4 @@ pub mod Printed
 pub mod Tables
 pub mod Written
 pub mod Field
+pub mod Laws

@@ -1,12 +1,13 @@
 -- The bytes of ELF's records: their fields in order, one after the other (gABI, "ELF Header", "Section
 -- Header", "Program Header", "Symbol Table", "Dynamic Section").
-use Rattle.std.specs.Prelude.{◌≡◌, ℕ, ◌+◌, ◌<◌, ◌^◌, List, [], ◌∷◌, ◌++◌, codes, replicate}
+use Rattle.std.specs.Prelude.{◌≡◌, ℕ, ◌+◌, ◌<◌, ◌^◌, List, [], ◌∷◌, ◌++◌, codes, replicate, ◌==◌, take, drop}
 use Rattle.ifs_bytes.specs.Field.{word_size, number_at, number_bytes}
 use Rattle.ifs_bytes.specs.declared.form.Order.{Order}
 use Rattle.ifs_bytes.specs.declared.form.Order.TheVariants.{Little, Big}
 use Rattle.ifs_bytes.specs.declared.form.Width.{Width}
 use Rattle.ifs_bytes.specs.declared.form.Width.TheVariants.{W32, W64}
-use Rattle.elf_file.specs.Tables.{header_size, section_size, segment_size}
+use Rattle.elf_file.specs.Tables.{header_size, section_size, segment_size, file_header_at}
+use Rattle.elf_file.specs.declared.fields.FileHeader.{FileHeader}
 use Rattle.elf_file.specs.declared.header.Header.{Header}
 use Rattle.elf_file.specs.declared.section.SectionHeader.{SectionHeader}
 use Rattle.elf_file.specs.declared.segment.Segment.{Segment}
@@ -118,3 +119,30 @@ abbrev pub Stand : List ℕ → ℕ → Order → ℕ → List (ℕ × ℕ) → 
 Stand bytes at order place [] = Unit {0}
 Stand bytes at order place (f ∷ fs) =
     (number_at bytes (at + place) f.0 order ≡ f.1) × Stand bytes at order (place + f.0) fs
+
+-- the fields of a written file header
+abbrev pub file_header_of : Header → FileHeader
+file_header_of h = record {
+  kind = h.kind;
+  machine = h.machine;
+  entry = h.entry_point;
+  phoff = h.phoff;
+  shoff = h.shoff;
+  phentsize = segment_size h.width;
+  phnum = h.phnum;
+  shentsize = section_size h.width;
+  shnum = h.shnum;
+  shstrndx = h.shstrndx;
+}
+
+-- a file header stands at an offset, each field at its place
+pub record HeaderStands (bytes : List ℕ) (at : ℕ) (h : Header) : Type 0 where
+  pub ident : take 16 (drop at bytes) ≡ ident_bytes h.order h.width
+  pub fields : Stand bytes at h.order 16 (header_fields h (word_size h.width))
+  pub read : file_header_at bytes at h.order h.width ≡ file_header_of h
+
+-- a header whose numbers stand in the file header itself
+pub record IsPlain (h : Header) : Type 0 where
+  pub segments : h.phnum < 65535
+  pub names : h.shstrndx < 65535
+  pub sections : (h.shoff == 0) ≡ (h.shnum == 0)

@@ -11,6 +11,7 @@ mod elf;
 mod fields;
 mod form;
 mod header;
+mod laws;
 mod printed;
 mod put;
 mod section;
@@ -23,7 +24,11 @@ pub use dynamic::{Dyn, dyn_at, dynamic_entry_at, put_dyn};
 pub use elf::Elf;
 pub use fields::has_room;
 pub use header::{Header, put_header};
+pub use laws::{headers_are_read_back, records_are_read_back, sizes_are_kept};
 pub use section::{SectionHeader, put_section};
 pub use segment::{Segment, put_segment};
 pub use sizes::{dynamic_size, header_size, section_size, segment_size, symbol_size};
 pub use symbol::{Row, put_row, row_at, symbol_row_at};
+
+#[cfg(test)]
+mod tests;

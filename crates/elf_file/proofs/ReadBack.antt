@@ -30,7 +30,7 @@ number_at-number_bytes before rest size value order fits =
     ap (first_number size order) (drop-append_seam before (number_bytes size value order ++ rest)) ∙ first_number-number_bytes size value order rest fits
 
 -- fields that were written stand where they were written
-fields_stand : (fs : List (ℕ × ℕ)) (order : Order) (before seen after : List ℕ) (place : ℕ) → length seen ≡ place → AllFit fs → Stand (before ++ (seen ++ (fields_bytes fs order ++ after))) (length before) order place fs
+pub fields_stand : (fs : List (ℕ × ℕ)) (order : Order) (before seen after : List ℕ) (place : ℕ) → length seen ≡ place → AllFit fs → Stand (before ++ (seen ++ (fields_bytes fs order ++ after))) (length before) order place fs
 fields_stand [] order before seen after place e fit = tt
 fields_stand (f ∷ fs) order before seen after place e fit =
     let field = number_bytes f.0 f.1 order in
@@ -111,11 +111,11 @@ dynamic_at-dynamic_bytes d order width before after fit =
     dynamic_from_stand d order width _ _ (all_stand (dynamic_fields d (word_size width)) order before after fit)
 
 -- how many bytes fields have
-abbrev total_size : List (ℕ × ℕ) → ℕ
+abbrev pub total_size : List (ℕ × ℕ) → ℕ
 total_size [] = 0
 total_size (f ∷ fs) = f.0 + total_size fs
 
-length-fields_bytes : (fs : List (ℕ × ℕ)) (order : Order) → length (fields_bytes fs order) ≡ total_size fs
+pub length-fields_bytes : (fs : List (ℕ × ℕ)) (order : Order) → length (fields_bytes fs order) ≡ total_size fs
 length-fields_bytes [] order = refl
 length-fields_bytes (f ∷ fs) order =
     omega (arith, length-append (number_bytes f.0 f.1 order) (fields_bytes fs order), length-number_bytes f.0 f.1 order, length-fields_bytes fs order)
