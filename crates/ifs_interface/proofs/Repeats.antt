@@ -1,6 +1,6 @@
 -- Names in order: either each stands once, or the first that is repeated is the least.
-use Rattle.std.proofs.Common.{◌≡◌, ℕ, zero, suc, ◌+◌, ◌<◌, ◌≤◌, Bool, true, false, cond, not, ◌&&◌, List, [], ◌∷◌, length, map, take, drop, get_or, Option, Some, None, ◌⊎◌, inl, inr, refl, sym, ap, ◌∙◌, subst, arith}
-use Rattle.std.specs.List.{list_all, filter, count_by}
+use Rattle.std.proofs.Common.{◌≡◌, ℕ, zero, suc, ◌<◌, ◌≤◌, Bool, true, false, cond, not, List, [], ◌∷◌, length, drop, get_or, Option, Some, None, ◌⊎◌, inl, inr, refl, sym, ap, ◌∙◌, subst, arith}
+use Rattle.std.specs.List.{list_all, filter}
 use Rattle.std.specs.List.Sorted.{IsPermutation, IsSortedByKey}
 use Rattle.std.specs.Ordering.{nat_cmp}
 use Rattle.std.specs.Cmp.Lexicographic.{slice_cmp}
@@ -12,7 +12,7 @@ use Rattle.ifs_interface.specs.declared.symbol.Symbol.{Symbol}
 use Rattle.ifs_interface.specs.declared.target.Target.{Target}
 use Rattle.ifs_interface.specs.Triple.{same_name}
 use Rattle.ifs_interface.specs.Interface.{comes_before, ascends, is_proper_name, names_of, repeated_after, first_repeated, AreParts, IsLeastRepeated}
-use Rattle.ifs_interface.proofs.Names.{same_name-is, same_name-itself, before_differs, not_before_itself, before_trans, before_of_rest, rises, rises-from_sorted, list_all-IsPermutation}
+use Rattle.ifs_interface.proofs.Names.{same_name-is, same_name-itself, before_differs, before_trans, before_of_rest, rises, rises-from_sorted, list_all-IsPermutation}
 
 -- how often a name stands in a list
 abbrev times : List ℕ → List (List ℕ) → ℕ

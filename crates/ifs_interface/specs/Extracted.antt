@@ -7,7 +7,6 @@ use Rattle.ifs_interface.specs.declared.row.DynRow.{DynRow}
 use Rattle.ifs_interface.specs.declared.symbol.Kind.{Kind}
 use Rattle.ifs_interface.specs.declared.symbol.Kind.TheVariants.{NoType, Func, Object, Tls, Unknown}
 use Rattle.ifs_interface.specs.declared.symbol.Symbol.{Symbol}
-use Rattle.ifs_interface.specs.declared.target.Target.{Target}
 use Rattle.ifs_interface.specs.Triple.{same_name}
 use Rattle.ifs_interface.specs.Library.{LibraryRecord}
 use Rattle.ifs_interface.specs.Interface.{InterfaceRecord}

@@ -1,5 +1,5 @@
 -- What a target triple says: its part before the first dash names a machine, a byte order and a width.
-use Rattle.std.specs.Prelude.{ℕ, ◌+◌, ◌==◌, nat_eq, Bool, List, [], ◌∷◌, take, position, codes, Option, Some, None, option_map, option_and_then}
+use Rattle.std.specs.Prelude.{ℕ, ◌==◌, nat_eq, Bool, List, [], ◌∷◌, take, position, codes, Option, Some, option_map, option_and_then}
 use Rattle.std.specs.List.{find}
 use Rattle.std.specs.Cmp.Lexicographic.{pointwise}
 use Rattle.ifs_bytes.specs.declared.form.Order.{Order}

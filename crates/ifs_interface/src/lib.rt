@@ -17,3 +17,6 @@ pub use interface::Interface;
 pub use row::DynRow;
 pub use symbol::{Kind, Symbol};
 pub use target::{MachineFact, Target};
+
+#[cfg(test)]
+mod tests;

@@ -1,4 +1,4 @@
-use Rattle.std.proofs.Common.{◌≡◌, ◌+◌, ◌-◌, [], cond, Some, None, get_or, drop, sym, ap, ◌∙◌, arith}
+use Rattle.std.proofs.Common.{◌≡◌, ◌+◌, ◌-◌, [], cond, Some, get_or, drop, sym, ap, ◌∙◌, arith}
 use Rattle.ifs_interface.specs.Interface.{names_of, first_repeated}
 use Rattle.ifs_interface.proofs.Repeats.{step_at, end_at}
 use Rattle.ifs_interface.proofs.interface.repeated.Goals as goal

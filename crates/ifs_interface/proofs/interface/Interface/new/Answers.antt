@@ -1,4 +1,4 @@
-use Rattle.std.proofs.Common.{◌≡◌, ◌<◌, None, Some, List, [], length, get_or, refl, ap, ◌∙◌, arith}
+use Rattle.std.proofs.Common.{◌≡◌, ◌<◌, None, Some, [], length, get_or, refl, ap, ◌∙◌}
 use Rattle.ifs_interface.specs.Interface.{names_of, first_repeated}
 use Rattle.ifs_interface.proofs.Repeats.{ascends-from_sorted, IsLeastRepeated-from_sorted, AreParts-IsPermutation}
 use Rattle.ifs_interface.proofs.interface.Interface.new.Goals as goal
