@@ -1,0 +1,37 @@
+-- Rows of a library in byte order of their names.
+use Rattle.std.specs.Prelude.{◌≡◌, ℕ, Bool, true, not, ◌&&◌, List, [], ◌∷◌, map}
+use Rattle.std.specs.List.{list_all, find, prefix_len}
+use denote.Ref.{Bor}
+use Rattle.ifs_interface.specs.declared.row.DynRow.{DynRow}
+use Rattle.ifs_interface.specs.declared.symbol.Symbol.{Symbol}
+use Rattle.ifs_interface.specs.Triple.{same_name}
+use Rattle.ifs_interface.specs.Interface.{comes_before}
+use Rattle.ifs_interface.specs.Extracted.{rows_named, symbol_named, visible_names, is_defined, described, wanted_symbol}
+
+-- the rows that references point to
+abbrev pub pointed : List (Bor DynRow) → List DynRow
+pointed references = map (λ reference. reference.now) references
+
+-- no row's name comes before that of a row above it
+abbrev pub rises : List DynRow → Bool
+rises [] = true
+rises (row ∷ rows) = list_all (λ later. not (comes_before later.name row.name)) rows && rises rows
+
+-- sorted is rows in byte order of their names, those of one name in the order that they had
+pub record IsSortedByName (rows sorted : List DynRow) : Type 0 where
+  pub rising : rises sorted ≡ true
+  pub same_rows : (name : List ℕ) → rows_named name sorted ≡ rows_named name rows
+
+-- one symbol for each name of the rows
+abbrev pub symbols_by_name : List DynRow → List Symbol
+symbols_by_name rows = map (symbol_named rows) (visible_names rows)
+
+-- how many rows at the front have the name of the first
+abbrev pub run_length : List DynRow → ℕ
+run_length [] = 0
+run_length (row ∷ rows) = prefix_len (λ later. same_name later.name row.name) (row ∷ rows)
+
+-- the symbol of the name that all these rows have; there is one row at least
+abbrev pub symbol_of_run : List DynRow → Symbol
+symbol_of_run [] = wanted_symbol [] []
+symbol_of_run (row ∷ rows) = described row.name (find is_defined (row ∷ rows)) (row ∷ rows)
