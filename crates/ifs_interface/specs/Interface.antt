@@ -40,6 +40,15 @@ is_proper_target (Some triple) target =
 abbrev pub names_of : List Symbol → List (List ℕ)
 names_of symbols = map (λ s. s.name) symbols
 
+-- the first name that is the same as the one before it
+abbrev pub repeated_after : List ℕ → List (List ℕ) → Option (List ℕ)
+repeated_after before [] = None
+repeated_after before (n ∷ ns) = if same_name n before then Some n else repeated_after n ns
+
+abbrev pub first_repeated : List (List ℕ) → Option (List ℕ)
+first_repeated [] = None
+first_repeated (n ∷ ns) = repeated_after n ns
+
 -- the parts of an interface, its symbols in any order and with any repeats
 pub record AreParts (soname : Option (List ℕ)) (target : Target) (needed : List (List ℕ)) (symbols : List Symbol) : Type 0 where
   pub soname_is_proper : is_proper_soname soname ≡ true

@@ -1,8 +1,10 @@
 //! An interface.
 
-ghost use Rattle.std.specs.Prelude.{◌≡◌, IfOk};
+ghost use Rattle.std.specs.Prelude.{◌≡◌, ◌<◌, [], length, slice_index_or, option_map, IfOk, IfSome, IsPermutation, IsSortedByKey};
+ghost use Rattle.std.specs.Ordering.{nat_cmp};
+ghost use Rattle.std.specs.Cmp.Lexicographic.{slice_cmp};
 ghost use Rattle.std.specs.Option.{option_copied};
-ghost use Rattle.ifs_interface.specs.Interface.{InterfaceRecord, IsInterface, AreParts, Makes};
+ghost use Rattle.ifs_interface.specs.Interface.{InterfaceRecord, IsInterface, AreParts, Makes, names_of, first_repeated};
 
 use crate::symbol::Symbol;
 use crate::target::Target;
@@ -46,7 +48,7 @@ impl Interface {
         ensures { Makes soname target needed.items symbols.items result }
     {
         let mut symbols = symbols;
-        symbols.sort_unstable_by(|a, b| a.name.cmp(&b.name));
+        sort_by_name(&mut symbols);
         match repeated(&symbols) {
             Some(place) => Err(symbols.swap_remove(place).name),
             None => Ok(Interface {
@@ -121,16 +123,24 @@ impl Interface {
     }
 }
 
-// The place of the first symbol, in byte order, whose name the next one has too.
-fn repeated(symbols: &[Symbol]) -> Option<usize> {
-    let mut last: Option<&Symbol> = None;
-    for (place, symbol) in symbols.iter().enumerate() {
-        if let Some(before) = last {
-            if before.name == symbol.name {
-                return Some(place);
-            }
+// Puts symbols in byte order of their names.
+fn sort_by_name(symbols: &mut Vec<Symbol>)
+    ensures same { IsPermutation symbols.old.items symbols.new.items }
+    ensures sorted { IsSortedByKey (λ s. s.name) (slice_cmp nat_cmp) symbols.new.items }
+{
+    symbols.sort_unstable_by(|a, b| a.name.cmp(&b.name));
+}
+
+// The place of the first symbol whose name the one before it has too.
+fn repeated(symbols: &[Symbol]) -> Option<usize>
+    ensures within { IfSome result (λ place. place < length symbols.now) }
+    ensures name { option_map (λ place. slice_index_or (names_of symbols.now) place []) result
+        ≡ first_repeated (names_of symbols.now) }
+{
+    for place in 1..symbols.len() {
+        if symbols[place].name == symbols[place - 1].name {
+            return Some(place);
         }
-        last = Some(symbol);
     }
     None
 }

@@ -1,0 +1,2 @@
+pub mod ByWord
+pub mod Laws

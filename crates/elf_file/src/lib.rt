@@ -1,0 +1,29 @@
+//! The records of ELF files, in both widths and both byte orders: the file header, section headers,
+//! program headers, rows of symbol tables and dynamic entries. Each is read at an offset and written at the
+//! end of a vector; `Elf::parse` answers the header of a file with its two tables, or the first cause why
+//! it can't be read. The width and the order are parameters of one table of places for each record, so
+//! nothing here is written twice.
+#![tactic(auto)]
+
+mod cause;
+mod dynamic;
+mod elf;
+mod fields;
+mod form;
+mod header;
+mod printed;
+mod put;
+mod section;
+mod segment;
+mod sizes;
+mod symbol;
+
+pub use cause::{ElfCause, NamePlace};
+pub use dynamic::{Dyn, dyn_at, dynamic_entry_at, put_dyn};
+pub use elf::Elf;
+pub use fields::has_room;
+pub use header::{Header, put_header};
+pub use section::{SectionHeader, put_section};
+pub use segment::{Segment, put_segment};
+pub use sizes::{dynamic_size, header_size, section_size, segment_size, symbol_size};
+pub use symbol::{Row, put_row, row_at, symbol_row_at};
