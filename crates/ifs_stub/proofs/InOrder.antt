@@ -8,8 +8,10 @@ use Rattle.std.proofs.lemmas.Bool.{and_parts, and_from, true≢false, false≢tr
 use Rattle.ifs_interface.specs.Triple.{same_name}
 use Rattle.ifs_interface.specs.Interface.{comes_before, ascends}
 use Rattle.ifs_interface.specs.Extracted.{insert_name, in_order}
-use Rattle.ifs_stub.proofs.NameOrder.{compared, is_less, same_is, same_itself, equal_itself, equal_is, greater_back, before_trans, after_differs}
-use Rattle.ifs_stub.proofs.Lists.{all_weaker, any_none}
+use Rattle.ifs_interface.proofs.Names.{same_name-is, same_name-itself, before_trans}
+use Rattle.ifs_interface.proofs.Repeats.{list_all-weaker}
+use Rattle.ifs_stub.proofs.NameOrder.{compared, is_less, equal_itself, equal_is, greater_back, after_differs}
+use Rattle.ifs_stub.proofs.Lists.{any_none}
 
 -- a name of this order against the first of names, among these
 abbrev placed : Ordering → List ℕ → List ℕ → List (List ℕ) → List (List ℕ)
@@ -48,7 +50,7 @@ inserted_again n ms = ap (λ o. placed o n n ms) (equal_itself n)
 -- a name that comes before the first of ascending names comes before all
 all_after : (n m : List ℕ) (ms : List (List ℕ)) → comes_before n m ≡ true → list_all (comes_before m) ms ≡ true → list_all (comes_before n) (m ∷ ms) ≡ true
 all_after n m ms h g =
-    and_from (comes_before n m) (list_all (comes_before n) ms) h (all_weaker (comes_before m) (comes_before n) (λ k e. before_trans n m k h e) ms g)
+    and_from (comes_before n m) (list_all (comes_before n) ms) h (list_all-weaker (comes_before m) (comes_before n) (λ k e. before_trans n m k h e) ms g)
 
 ascends_placed : (n m : List ℕ) (ms : List (List ℕ)) → list_all (comes_before m) ms ≡ true → ascends ms ≡ true → ascends (insert_name n ms) ≡ true → (o : Ordering) → compared n m ≡ o → ascends (placed o n m ms) ≡ true
 ascends_placed n m ms h g rest Less e =
@@ -99,7 +101,7 @@ has_in_order q [] = refl
 has_in_order q (n ∷ ns) = has_inserted q n (in_order ns) ∙ ap (λ t. same_name n q || t) (has_in_order q ns)
 
 has_itself : (n : List ℕ) (ns : List (List ℕ)) → has n (n ∷ ns) ≡ true
-has_itself n ns = ap (λ t. t || has n ns) (same_itself n)
+has_itself n ns = ap (λ t. t || has n ns) (same_name-itself n)
 
 has_no_earlier : (n : List ℕ) (ms : List (List ℕ)) → list_all (comes_before n) ms ≡ true → has n ms ≡ false
 has_no_earlier n ms h = any_none (λ m. same_name m n) (comes_before n) (λ m e. after_differs n m e) ms h
@@ -107,7 +109,7 @@ has_no_earlier n ms h = any_none (λ m. same_name m n) (comes_before n) (λ m e.
 -- the names behind the first of two lists that have the same names and the same first
 has_behind : (q x : List ℕ) (xs ys : List (List ℕ)) → list_all (comes_before x) xs ≡ true → list_all (comes_before x) ys ≡ true → has q (x ∷ xs) ≡ has q (x ∷ ys) → (t : Bool) → same_name x q ≡ t → has q xs ≡ has q ys
 has_behind q x xs ys f g h true e =
-    let no_earlier : (zs : List (List ℕ)) → list_all (comes_before x) zs ≡ true → has q zs ≡ false = λ zs all. subst (λ n. has n zs ≡ false) (same_is x q e) (has_no_earlier x zs all) in
+    let no_earlier : (zs : List (List ℕ)) → list_all (comes_before x) zs ≡ true → has q zs ≡ false = λ zs all. subst (λ n. has n zs ≡ false) (same_name-is x q e) (has_no_earlier x zs all) in
     no_earlier xs f ∙ sym (no_earlier ys g)
 has_behind q x xs ys f g h false e =
     sym (ap (λ t. t || has q xs) e) ∙ h ∙ ap (λ t. t || has q ys) e

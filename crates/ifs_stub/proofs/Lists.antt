@@ -3,13 +3,6 @@ use Rattle.std.proofs.Common.{◌≡◌, ℕ, zero, suc, ◌+◌, Bool, true, fa
 use Rattle.std.specs.List.{list_all, list_any, filter, find, prefix_len}
 use Rattle.std.proofs.lemmas.Bool.{and_parts, and_from, true≢false, false≢true}
 
--- what passes one test passes another
-pub all_weaker : {X : Type 0} (p q : X → Bool) → ((x : X) → p x ≡ true → q x ≡ true) → (xs : List X) → list_all p xs ≡ true → list_all q xs ≡ true
-all_weaker p q h [] g = refl
-all_weaker p q h (x ∷ xs) g =
-    let parts = and_parts (p x) (list_all p xs) g in
-    and_from (q x) (list_all q xs) (h x parts.0) (all_weaker p q h xs parts.1)
-
 pub filter_all : {X : Type 0} (p : X → Bool) (xs : List X) → list_all p xs ≡ true → filter p xs ≡ xs
 filter_all p [] h = refl
 filter_all p (x ∷ xs) h =

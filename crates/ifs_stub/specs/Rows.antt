@@ -1,26 +1,27 @@
 -- Rows of a library in byte order of their names.
-use Rattle.std.specs.Prelude.{◌≡◌, ℕ, Bool, true, not, ◌&&◌, List, [], ◌∷◌, map}
-use Rattle.std.specs.List.{list_all, find, prefix_len}
+use Rattle.std.specs.Prelude.{◌≡◌, ℕ, List, [], ◌∷◌, map}
+use Rattle.std.specs.List.{find, prefix_len}
+use Rattle.std.specs.List.Sorted.{IsSortedByKey}
+use Rattle.std.specs.Ordering.{nat_cmp}
+use Rattle.std.specs.Cmp.Lexicographic.{slice_cmp}
 use denote.Ref.{Bor}
 use Rattle.ifs_interface.specs.declared.row.DynRow.{DynRow}
 use Rattle.ifs_interface.specs.declared.symbol.Symbol.{Symbol}
 use Rattle.ifs_interface.specs.Triple.{same_name}
-use Rattle.ifs_interface.specs.Interface.{comes_before}
 use Rattle.ifs_interface.specs.Extracted.{rows_named, symbol_named, visible_names, is_defined, described, wanted_symbol}
 
 -- the rows that references point to
 abbrev pub pointed : List (Bor DynRow) → List DynRow
 pointed references = map (λ reference. reference.now) references
 
--- no row's name comes before that of a row above it
-abbrev pub rises : List DynRow → Bool
-rises [] = true
-rises (row ∷ rows) = list_all (λ later. not (comes_before later.name row.name)) rows && rises rows
+-- the rows stand in byte order of their names
+abbrev pub AreInNameOrder : List (Bor DynRow) → Type 0
+AreInNameOrder references = IsSortedByKey (λ reference. reference.now.name) (slice_cmp nat_cmp) references
 
--- sorted is rows in byte order of their names, those of one name in the order that they had
-pub record IsSortedByName (rows sorted : List DynRow) : Type 0 where
-  pub rising : rises sorted ≡ true
-  pub same_rows : (name : List ℕ) → rows_named name sorted ≡ rows_named name rows
+-- sorted has the rows in byte order of their names, those of one name in the order that they had
+pub record IsSortedByName (rows : List DynRow) (sorted : List (Bor DynRow)) : Type 0 where
+  pub rising : AreInNameOrder sorted
+  pub same_rows : (name : List ℕ) → rows_named name (pointed sorted) ≡ rows_named name rows
 
 -- one symbol for each name of the rows
 abbrev pub symbols_by_name : List DynRow → List Symbol

@@ -4,7 +4,7 @@ ghost use Rattle.std.specs.Prelude.{◌≡◌, ◌<◌, true, IfOk, length, map}
 ghost use Rattle.std.specs.List.{list_all};
 ghost use Rattle.ifs_interface.specs.Extracted.{symbol_named, visible_names};
 ghost use Rattle.ifs_interface.specs.Interface.{ascends, is_proper_name, names_of};
-ghost use Rattle.ifs_stub.specs.Rows.{pointed, rises, run_length, symbols_by_name, IsSortedByName};
+ghost use Rattle.ifs_stub.specs.Rows.{pointed, run_length, symbols_by_name, AreInNameOrder, IsSortedByName};
 
 use crate::described::described;
 use ifs_bytes::Memory;
@@ -13,7 +13,7 @@ use std::alloc::Global;
 
 // The rows in byte order of their names, those of one name in the order that they had.
 fn sorted_by_name(alloc: Global, rows: &[DynRow]) -> Result<Vec<&DynRow>, Memory>
-    ensures { IfOk result (λ sorted. IsSortedByName rows.now (pointed sorted.items)) }
+    ensures { IfOk result (λ sorted. IsSortedByName rows.now sorted.items) }
 {
     let mut sorted: Vec<&DynRow> = rows.iter().collect(alloc)?;
     sorted.sort_by(|a, b| a.name.cmp(&b.name))?;
@@ -31,7 +31,7 @@ fn run_length(rows: &[&DynRow]) -> usize
 
 // One symbol for each name of rows that stand in byte order of their names.
 fn collapsed(alloc: Global, rows: &[&DynRow]) -> Result<Vec<Symbol>, Memory>
-    requires { rises (pointed rows.now) ≡ true }
+    requires { AreInNameOrder rows.now }
     ensures { IfOk result (λ symbols. symbols.items ≡ symbols_by_name (pointed rows.now)) }
 {
     let mut symbols = Vec::with_capacity(alloc, rows.len())?;

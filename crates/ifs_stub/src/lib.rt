@@ -11,3 +11,6 @@ mod extract;
 
 pub use collapse::symbols_of;
 pub use extract::interface_from;
+
+#[cfg(test)]
+mod tests;

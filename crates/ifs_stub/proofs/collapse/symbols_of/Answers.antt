@@ -9,7 +9,7 @@ use Rattle.ifs_stub.proofs.collapse.symbols_of.Goals as goal
 the_symbols : (c : goal.After-drop-sorted) → symbols_by_name (pointed c.as_slice.result.now) ≡ symbols_by_name c.args.rows.now
 the_symbols c =
     ap (λ sorted. symbols_by_name (pointed sorted)) c.as_slice.ensures.value
-    ∙ symbols_of_sorted c.args.rows.now (pointed c.in_ok-sorted.sorted.items) c.in_ok-sorted.ensures
+    ∙ symbols_of_sorted c.args.rows.now c.in_ok-sorted.sorted.items c.in_ok-sorted.ensures
 
 pub returns-clause-symbols : goal.returns-clause-symbols
 returns-clause-symbols c = IfOk-weaker c.collapsed.result _ _ (λ symbols e. e ∙ the_symbols c) c.collapsed.ensures
