@@ -1,0 +1,18 @@
+//! The outside of `ifs`: bytes that are read to their end, bytes that are written, and files. Each is a
+//! trait whose contract says what a call gives, what it leaves, and that a fault is answered only where
+//! the object that was handed in counted one. The forms in memory tell all that they hold and fail at
+//! the calls that a list names; the forms over std tell nothing, since no contract can say what a real
+//! file holds.
+#![tactic(auto)]
+
+mod cause;
+mod counts;
+mod files;
+mod sink;
+mod source;
+
+pub use cause::{Failed, ReadCause, WriteCause};
+pub use counts::FileCounts;
+pub use files::Files;
+pub use sink::{Sink, write_all};
+pub use source::Source;
