@@ -7,12 +7,18 @@
 
 mod cause;
 mod counts;
+mod entries;
 mod files;
+mod memory_sink;
+mod memory_source;
+mod schedule;
 mod sink;
 mod source;
 
 pub use cause::{Failed, ReadCause, WriteCause};
 pub use counts::FileCounts;
 pub use files::Files;
+pub use memory_sink::MemorySink;
+pub use memory_source::MemorySource;
 pub use sink::{Sink, write_all};
 pub use source::Source;
