@@ -1,10 +1,10 @@
 -- A write that goes on where the one before it ended.
-use Rattle.std.proofs.Common.{◌≡◌, ℕ, ◌+◌, ◌≤◌, List, ◌++◌, length, take, drop, Option, None, Some, Result, Ok, Err, refl, ap, arith, append_assoc, length-drop}
+use Rattle.std.proofs.Common.{◌≡◌, ℕ, ◌+◌, ◌≤◌, List, length, take, drop, Option, None, Some, Err, refl, ap, arith, append_assoc, length-drop}
 use Rattle.std.specs.Io.KnownBytes.{append_known}
 use Rattle.std.proofs.Math.Seq.{take-add}
 use Rattle.ifs_outside.specs.declared.cause.WriteCause.{WriteCause}
 use Rattle.ifs_outside.specs.declared.cause.WriteCause.TheVariants.{Failed, Memory}
-use Rattle.ifs_outside.specs.Sink.{Puts, PutsPrefix, PutsAll}
+use Rattle.ifs_outside.specs.Sink.{Puts, PutsPrefix}
 
 -- what stands after two writes one behind the other
 pub more_written : (told : Option (List ℕ)) (bytes : List ℕ) (done n : ℕ) → append_known (append_known told (take done bytes)) (take n (drop done bytes)) ≡ append_known told (take (done + n) bytes)

@@ -1,5 +1,5 @@
 -- A read that takes the next bytes.
-use Rattle.std.proofs.Common.{◌≡◌, ℕ, ◌+◌, ◌≤◌, ◌<◌, min, List, [], ◌++◌, length, take, drop, sym, ◌∙◌, arith, length-drop, length-append}
+use Rattle.std.proofs.Common.{◌≡◌, ℕ, ◌+◌, ◌<◌, min, List, [], ◌++◌, length, take, drop, sym, arith, length-drop}
 use Rattle.std.proofs.lemmas.List.{take-append-drop, drop-drop, drop_all}
 
 -- what was left is what was taken and what is left behind it

@@ -1,5 +1,5 @@
 -- What files in memory are seen as.
-use Rattle.std.specs.Prelude.{ℕ, List, [], ◌∷◌, Option, None, if◌then◌else◌}
+use Rattle.std.specs.Prelude.{List, [], ◌∷◌, None, if◌then◌else◌}
 use Rattle.std.specs.Str.{bytes_eq}
 use Rattle.ifs_outside.specs.declared.counts.FileCounts.{FileCounts}
 use Rattle.ifs_outside.specs.declared.entries.Entry.{Entry}

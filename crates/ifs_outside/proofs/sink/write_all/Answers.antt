@@ -1,6 +1,5 @@
-use Rattle.std.proofs.Common.{◌≡◌, ◌+◌, take, drop, length, arith, ap, ◌∙◌, rules, length-drop}
+use Rattle.std.proofs.Common.{arith, ◌∙◌, length-drop}
 use Rattle.std.proofs.lemmas.Result.{err_from_is_err_and}
-use Rattle.ifs_outside.specs.Sink.{Puts}
 use Rattle.ifs_outside.proofs.Prefix.{more_written, stopped}
 use Rattle.ifs_outside.proofs.sink.write_all.Goals as goal
 

@@ -1,4 +1,4 @@
-use Rattle.std.proofs.Common.{◌≡◌, ap, ◌∙◌, sym, Some, rules}
+use Rattle.std.proofs.Common.{ap, ◌∙◌, sym, Some}
 use Rattle.ifs_outside.proofs.Held.{held_at, not_held}
 use Rattle.ifs_outside.proofs.entries.Entries.get.Goals as goal
 

@@ -1,4 +1,4 @@
-use Rattle.std.proofs.Common.{◌≡◌, Some}
+use Rattle.std.proofs.Common.{Some}
 use Rattle.ifs_outside.proofs.Held.{changed, pushed}
 use Rattle.ifs_outside.proofs.entries.Entries.put.Goals as goal
 

@@ -1,4 +1,4 @@
-use Rattle.std.proofs.Common.{◌≡◌, None}
+use Rattle.std.proofs.Common.{None}
 use Rattle.ifs_outside.proofs.Held.{changed, taken_away}
 use Rattle.ifs_outside.proofs.entries.Entries.remove.Goals as goal
 

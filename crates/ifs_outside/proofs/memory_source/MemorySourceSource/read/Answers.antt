@@ -1,4 +1,4 @@
-use Rattle.std.proofs.Common.{◌≡◌, ◌+◌, ◌≤◌, ◌<◌, min, length, take, drop, [], ap, ◌∙◌, sym, Some, arith, rules}
+use Rattle.std.proofs.Common.{length, ap, ◌∙◌, sym, Some, arith}
 use Rattle.ifs_outside.specs.MemorySource.{SourceState}
 use Rattle.ifs_outside.proofs.Taken.{taken, none_left}
 use Rattle.ifs_outside.proofs.memory_source.MemorySourceSource.read.Goals as goal
