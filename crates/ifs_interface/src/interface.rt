@@ -145,7 +145,8 @@ fn repeated(symbols: &[Symbol]) -> Option<usize>
     None
 }
 
-fn copied_texts(alloc: Global, texts: &[Text]) -> Result<Vec<Text>, Memory>
+/// Equal texts, in the same order.
+pub fn copied_texts(alloc: Global, texts: &[Text]) -> Result<Vec<Text>, Memory>
     ensures { IfOk result (λ copies. copies.items ≡ texts.now) }
 {
     let mut copies = Vec::with_capacity(alloc, texts.len())?;

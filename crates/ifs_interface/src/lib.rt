@@ -13,7 +13,7 @@ mod symbol;
 mod target;
 
 pub use arch::put_arch;
-pub use interface::Interface;
+pub use interface::{Interface, copied_texts};
 pub use row::DynRow;
 pub use symbol::{Kind, Symbol};
 pub use target::{MachineFact, Target};

@@ -2,15 +2,15 @@
 //!
 //! The rows of a library's dynamic symbol table are put in byte order of their names, and each run of rows of
 //! one name becomes one symbol (`symbols_of`). With the library's soname, machine and needed libraries these
-//! are its interface (`interface_from`).
+//! are its interface (`extract`).
 #![tactic(auto)]
 
 mod collapse;
 mod described;
-mod extract;
+mod interface;
 
 pub use collapse::symbols_of;
-pub use extract::interface_from;
+pub use interface::extract;
 
 #[cfg(test)]
 mod tests;

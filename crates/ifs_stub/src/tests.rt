@@ -85,25 +85,3 @@ fn sizes_go_by_kind(rt: HostRuntime) -> Result<(), Fail> {
     assert!(rt; is_sized(&symbols, 3, b"4", Kind::Unknown, Some(5)));
     Ok(())
 }
-
-#[test]
-fn an_interface_has_each_part(rt: HostRuntime) -> Result<(), Fail> {
-    let alloc = rt.alloc();
-    let soname = Text::from_slice(alloc, b"x.so")?;
-    let needed = [Text::from_slice(alloc, b"y.so")?];
-    let rows = [row(alloc, b"f", 1, GLOBAL, 2, 64)?];
-    let interface = interface_from(
-        alloc,
-        62,
-        Order::Little,
-        Width::W64,
-        Some(&soname),
-        &needed,
-        &rows,
-    )?;
-    assert!(rt; interface.soname() == Some(&soname));
-    assert!(rt; interface.needed_list() == needed.as_slice());
-    assert_eq!(rt; interface.symbols().len(), 1);
-    assert_eq!(rt; interface.target().machine, Some(62));
-    Ok(())
-}

@@ -1,0 +1,5 @@
+pub mod Command
+pub mod Reply
+pub mod Outcome
+pub mod Outside
+pub mod Runs
