@@ -2,4 +2,4 @@ pub mod Command
 pub mod Reply
 pub mod Outcome
 pub mod Outside
-pub mod Runs
+pub mod Steps

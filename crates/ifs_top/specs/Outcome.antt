@@ -14,13 +14,13 @@ use Rattle.ifs_top.specs.declared.reply.Reply.{Reply}
 use Rattle.ifs_top.specs.Command.{library_path}
 use Rattle.ifs_top.specs.Reply.{fault}
 
--- the interface of a library as a text on standard output, or why the file was refused
+-- a text on standard output
+abbrev pub printed_text : List ℕ → Reply
+printed_text text = record { outputs = record { path = codes "-"; bytes = text } ∷ []; line = []; status = 0 }
+
+-- the interface of a library as a text, or why the file was refused
 abbrev pub stub_of : List ℕ → Result LibraryRecord ElfCause → Reply
-stub_of path (Ok library) = record {
-  outputs = record { path = codes "-"; bytes = printed_interface (interface_of library) } ∷ [];
-  line = [];
-  status = 0;
-}
+stub_of path (Ok library) = printed_text (printed_interface (interface_of library))
 stub_of path (Err cause) = fault path (printed_elf_cause cause) 1
 
 -- what was read, or why it wasn't
@@ -32,9 +32,12 @@ after_reading path (Err Failed) = fault path (codes "read failed") 3
 after_reading path (Err Memory) = fault path (codes "read failed") 3
 
 -- words that aren't understood are refused
+abbrev pub refused_words : Reply
+refused_words = fault (codes "words") (codes "NotYet") 2
+
 abbrev pub by_path : Option (List ℕ) → FileMap → Reply
 by_path (Some path) files = after_reading path (reading MOST_FILE_BYTES (files path))
-by_path None files = fault (codes "words") (codes "NotYet") 2
+by_path None files = refused_words
 
 -- the reply to these words, where the files hold this
 unfoldable pub outcome : List (List ℕ) → FileMap → Reply

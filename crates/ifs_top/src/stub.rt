@@ -1,18 +1,17 @@
 //! The command `stub`: a library's interface as a text.
 
-ghost use Rattle.std.specs.Prelude.{◌≡◌, IfOk, IfSome, map, string_bytes};
+ghost use Rattle.std.specs.Prelude.{◌≡◌, ◌<◌, IfOk, IfSome, Result};
 ghost use Rattle.ifs_outside.specs.Files.{reading};
 ghost use Rattle.elf_dyn.specs.Library.{library_of};
-ghost use Rattle.ifs_top.specs.Outcome.{after_reading, outcome, stub_of};
-ghost use Rattle.ifs_top.specs.Decided.{Decided, ReadsFor};
 ghost use Rattle.ifs_interface.specs.Extracted.{interface_of};
+ghost use Rattle.ifs_text.specs.Printed.{printed_interface};
+ghost use Rattle.ifs_top.specs.Outcome.{after_reading, outcome, printed_text, stub_of};
+ghost use Rattle.ifs_top.specs.Steps.{DecideCounts};
 
 use crate::limits::MOST_FILE_BYTES;
 use crate::reply::{Output, Reply, fault, fault_line};
-use crate::words::library_path;
 use elf_dyn::{ElfCause, Library};
 use ifs_bytes::{List, Memory, Text};
-use ifs_interface::Interface;
 use ifs_outside::{Files, ReadCause};
 use ifs_stub::extract;
 use ifs_text::print;
@@ -48,7 +47,7 @@ fn text_of(alloc: Global, library: Library) -> Result<Text, Memory>
 }
 
 // The reply with a text on standard output.
-fn printed(alloc: Global, text: Text) -> Result<Reply, Memory>
+fn printed_text(alloc: Global, text: Text) -> Result<Reply, Memory>
     ensures { IfOk result (λ reply. reply ≡ printed_text text) }
 {
     let output = Output {
@@ -62,4 +61,35 @@ fn printed(alloc: Global, text: Text) -> Result<Reply, Memory>
         line: Text::new(alloc),
         status: 0,
     })
+}
+
+// The reply to the bytes of a file, which are let go before the text is made.
+fn stub_of(alloc: Global, path: &[u8], bytes: Vec<u8>) -> Result<Reply, Memory>
+    ensures reply { IfOk result (λ reply. reply ≡ stub_of path.now (library_of bytes.items)) }
+    ensures status { IfOk result (λ reply. reply.status < 3) }
+{
+    match Library::parse(alloc, &bytes) {
+        Ok(library) => {
+            drop(bytes);
+            printed_text(alloc, text_of(alloc, library)?)
+        }
+        Err(ElfCause::Memory) => Err(Memory),
+        Err(cause) => fault(alloc, path, cause.printed(alloc)?.as_bytes(), 1),
+    }
+}
+
+// The reply to a library at a path.
+fn stub<F: Files>(alloc: Global, path: &[u8], files: &mut F) -> Result<Reply, Stop>
+    ensures reply { IfOk result (λ reply. IfSome (F.map files.old)
+        (λ map. reply ≡ after_reading path.now (reading MOST_FILE_BYTES (map path.now)))) }
+    ensures keeps { F.map files.new ≡ F.map files.old }
+    ensures counted { DecideCounts result (F.counts files.old) (F.counts files.new) }
+{
+    match files.read(alloc, path, MOST_FILE_BYTES) {
+        Ok(bytes) => Ok(stub_of(alloc, path, bytes)?),
+        Err(ReadCause::Missing) => Ok(fault(alloc, path, b"missing", 3)?),
+        Err(ReadCause::TooLarge) => Ok(fault(alloc, path, b"too large", 3)?),
+        Err(ReadCause::Failed) => Err(Stop::Unread(fault_line(alloc, path, b"read failed")?)),
+        Err(ReadCause::Memory) => Err(Stop::Memory),
+    }
 }

@@ -1,0 +1,7 @@
+//! The commands of `ifs`.
+#![tactic(auto)]
+
+mod limits;
+mod reply;
+mod stub;
+mod words;
