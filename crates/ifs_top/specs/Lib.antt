@@ -3,3 +3,4 @@ pub mod Reply
 pub mod Outcome
 pub mod Outside
 pub mod Steps
+pub mod Runs

@@ -1,8 +1,8 @@
 -- What is known of the outside before or after a run: what the files and the sinks hold, where they tell it,
 -- and their counts; and how outputs change it.
-use Rattle.std.specs.Prelude.{◌≡◌, true, ℕ, ◌+◌, ◌<◌, ◌≤◌, ◌⊎◌, List, [], ◌∷◌, Option, Some, option_map, Result, Ok, Err, if◌then◌else◌}
+use Rattle.std.specs.Prelude.{◌≡◌, ℕ, ◌⊎◌, List, [], ◌∷◌, Option, Some, option_map, if◌then◌else◌}
 use Rattle.std.specs.Io.KnownBytes.{append_known}
-use Rattle.ifs_outside.specs.Count.{raised, Rose}
+use Rattle.ifs_outside.specs.Count.{Rose}
 use Rattle.ifs_outside.specs.Files.{FileMap, put, with_write}
 use Rattle.ifs_outside.specs.Sink.{PutsPrefix}
 use Rattle.ifs_outside.specs.declared.counts.FileCounts.{FileCounts}
@@ -25,6 +25,9 @@ pub record Outside : Type 0 where
   pub places : Places
   pub err : Option (List ℕ)
   pub err_faults : ℕ
+
+abbrev pub places : Option (List ℕ) → ℕ → Option FileMap → FileCounts → Places
+places out out_faults files counts = record { out = out; out_faults = out_faults; files = files; counts = counts }
 
 -- the places once an output is written
 abbrev pub after : Output → Places → Places

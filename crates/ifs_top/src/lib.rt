@@ -1,6 +1,7 @@
 //! The commands of `ifs`.
 #![tactic(auto)]
 
+mod deliver;
 mod limits;
 mod reply;
 mod stub;
