@@ -11,7 +11,6 @@ use Rattle.ifs_interface.specs.Library.{LibraryRecord}
 use Rattle.ifs_text.specs.Printed.{printed_interface}
 use Rattle.ifs_top.specs.declared.limits.TheConstants.{MOST_FILE_BYTES}
 use Rattle.ifs_top.specs.declared.reply.Reply.{Reply}
-use Rattle.ifs_top.specs.Command.{library_path}
 use Rattle.ifs_top.specs.Reply.{fault}
 
 -- a text on standard output
@@ -35,10 +34,7 @@ after_reading path (Err Memory) = fault path (codes "read failed") 3
 abbrev pub refused_words : Reply
 refused_words = fault (codes "words") (codes "NotYet") 2
 
-abbrev pub by_path : Option (List ℕ) → FileMap → Reply
-by_path (Some path) files = after_reading path (reading MOST_FILE_BYTES (files path))
-by_path None files = refused_words
-
--- the reply to these words, where the files hold this
-unfoldable pub outcome : List (List ℕ) → FileMap → Reply
-outcome words files = by_path (library_path words) files
+-- the reply to what the words ask for, where the files hold this
+abbrev pub outcome : Option (List ℕ) → FileMap → Reply
+outcome (Some path) files = after_reading path (reading MOST_FILE_BYTES (files path))
+outcome None files = refused_words

@@ -7,7 +7,6 @@ use Rattle.ifs_outside.specs.declared.counts.FileCounts.{FileCounts}
 use Rattle.ifs_outside.specs.declared.cause.ReadCause.TheVariants.{Missing, TooLarge}
 use Rattle.ifs_top.specs.declared.limits.TheConstants.{MOST_FILE_BYTES}
 use Rattle.ifs_top.specs.declared.reply.Reply.{Reply}
-use Rattle.ifs_top.specs.Command.{library_path}
 use Rattle.ifs_top.specs.Outcome.{outcome}
 use Rattle.ifs_top.specs.Outside.{Places, Outside, Keeps, PlaceRose, StopsWithin, places, written}
 use Rattle.ifs_top.specs.Reply.{fault_line}
@@ -73,15 +72,15 @@ abbrev pub SaysUnwritten : Outside → Outside → Type 0
 SaysUnwritten old new =
     (path : List ℕ) × (new.err ≡ append_known old.err (fault_line path (codes "write failed"))) × PlaceRose old.places new.places
 
--- a run with these words ended with this status
-pub record Runs (words : List (List ℕ)) (status : ℕ) (old new : Outside) : Type 0 where
+-- a run whose words ask for this ended with this status
+pub record Runs (asked : Option (List ℕ)) (status : ℕ) (old new : Outside) : Type 0 where
   -- standard input is left unread
   pub left : new.left ≡ old.left
   pub input_faults : new.input_faults ≡ old.input_faults
-  -- the statuses 0, 1 and 2 give just what the words and the files ask for, whatever counts rose
-  pub settled : status < 3 → IfSome old.places.files (λ files. Gives (outcome words files) status old new)
+  -- the statuses 0, 1 and 2 give just what the words ask for, by what the files hold, whatever counts rose
+  pub settled : status < 3 → IfSome old.places.files (λ files. Gives (outcome asked files) status old new)
   -- and so does every status but 5 where no fault was counted
-  pub complete : NoFault old new → status ≢ 5 → IfSome old.places.files (λ files. Gives (outcome words files) status old new)
+  pub complete : NoFault old new → status ≢ 5 → IfSome old.places.files (λ files. Gives (outcome asked files) status old new)
   -- 3 comes only where reading failed or missed, 4 only where writing failed
   pub three : status ≡ 3 → ReadRose old new
   pub four : status ≡ 4 → WriteRose old new
@@ -91,14 +90,14 @@ pub record Runs (words : List (List ℕ)) (status : ℕ) (old new : Outside) : T
   pub at_most_five : status ≤ 5
   -- whatever went wrong, the outputs that were written whole are the first of the list, and at most one more
   -- was spoilt
-  pub stops : IfSome old.places.files (λ files. StopsWithin (outcome words files).outputs old.places new.places)
+  pub stops : IfSome old.places.files (λ files. StopsWithin (outcome asked files).outputs old.places new.places)
   -- where reading failed or missed, nothing was written
   pub unread : status ≡ 3 → WritesNothing old new
   pub grew_unread : read_total old < read_total new → WritesNothing old new
   -- the line of a fault, with its cause
-  pub read_line : status ≡ 3 → (path : List ℕ) × (library_path words ≡ Some path) × SaysUnread path old new
+  pub read_line : status ≡ 3 → (path : List ℕ) × (asked ≡ Some path) × SaysUnread path old new
   pub write_line : status ≡ 4 → Rose old.err_faults new.err_faults ⊎ SaysUnwritten old new
   -- words that aren't understood: nothing is read or written but their line
-  pub refused : library_path words ≡ None → new.places ≡ old.places
-  pub refused_line : library_path words ≡ None → NoFault old new → status ≢ 5
+  pub refused : asked ≡ None → new.places ≡ old.places
+  pub refused_line : asked ≡ None → NoFault old new → status ≢ 5
       → (status ≡ 2) × (new.err ≡ append_known old.err (fault_line (codes "words") (codes "NotYet")))

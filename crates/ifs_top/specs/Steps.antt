@@ -1,5 +1,5 @@
 -- What the steps of a run promise.
-use Rattle.std.specs.Prelude.{◌≡◌, ℕ, ◌<◌, ◌⊎◌, ⊤, max, codes, List, [], ◌∷◌, ◌++◌, Option, Some, Result, Ok, Err, IfSome}
+use Rattle.std.specs.Prelude.{◌≡◌, ℕ, ◌<◌, ◌⊎◌, ⊤, max, codes, List, [], ◌∷◌, ◌++◌, length, Option, Some, None, Result, Ok, Err, IfSome, IfOk, IfErr}
 use Rattle.std.specs.Io.KnownBytes.{append_known}
 use Rattle.ifs_outside.specs.Count.{Rose}
 use Rattle.ifs_outside.specs.Files.{FileMap, reading}
@@ -14,6 +14,7 @@ use Rattle.ifs_top.specs.declared.stub.Stop.{Stop}
 use Rattle.ifs_top.specs.declared.stub.Stop.TheVariants as stops
 use Rattle.ifs_top.specs.declared.deliver.Unwritten.{Unwritten}
 use Rattle.ifs_top.specs.Outside.{Places, Spoils, Keeps, StopsWithin, SameFaults, Faulted, Counted, after, written}
+use Rattle.ifs_top.specs.Outcome.{after_reading, refused_words}
 use Rattle.ifs_top.specs.Reply.{fault_line}
 
 -- a reply of status 3 comes with a miss and any other with no change, a fault with its count; where memory
@@ -37,7 +38,7 @@ WritesOne (Err cause) output old new = (Keeps old new ⊎ Spoils output old new)
 -- the outputs were written, or some of them
 abbrev pub WritesAll : {T : Type 0} → Result T Unwritten → List Output → Places → Places → Type 0
 WritesAll (Ok _) outputs old new = new ≡ written outputs old
-WritesAll (Err unwritten) outputs old new = StopsWithin outputs old new × Counted unwritten.cause old new
+WritesAll (Err unwritten) outputs old new = (0 < length outputs) × StopsWithin outputs old new × Counted unwritten.cause old new
 
 -- a line was written on standard error, whose faults were counted, and the status is the greatest of what
 -- occurred
@@ -54,8 +55,8 @@ memory_line = codes "error: memory" ++ 10 ∷ []
 abbrev pub Delivers : Reply → ℕ → Places → Places → Option (List ℕ) → Option (List ℕ) → ℕ → ℕ → Type 0
 Delivers reply result old new err later faults later_faults =
     ((new ≡ written reply.outputs old) × Says reply.line reply.status result err later faults later_faults)
-    ⊎ (((path : List ℕ) × StopsWithin reply.outputs old new × Faulted old new × Says (fault_line path (codes "write failed")) 4 result err later faults later_faults)
-    ⊎ (StopsWithin reply.outputs old new × (Faulted old new ⊎ SameFaults old new) × Says memory_line 5 result err later faults later_faults))
+    ⊎ (((path : List ℕ) × (0 < length reply.outputs) × StopsWithin reply.outputs old new × Faulted old new × Says (fault_line path (codes "write failed")) 4 result err later faults later_faults)
+    ⊎ ((0 < length reply.outputs) × StopsWithin reply.outputs old new × (Faulted old new ⊎ SameFaults old new) × Says memory_line 5 result err later faults later_faults))
 
 -- the line of a miss says which
 abbrev pub IsMiss : List ℕ → Reply → Option FileMap → Type 0
@@ -67,3 +68,15 @@ IsMiss path reply files =
 abbrev pub StopSays : Stop → ℕ → Option (List ℕ) → Option (List ℕ) → ℕ → ℕ → Type 0
 StopSays (stops.Unread line) result err later faults later_faults = Says line 3 result err later faults later_faults
 StopSays stops.Memory result err later faults later_faults = Says memory_line 5 result err later faults later_faults
+
+-- the answer for a path
+pub record DecidesFor (path : List ℕ) (result : Result Reply Stop) (files : Option FileMap) (old new : FileCounts) : Type 0 where
+  pub reply : IfOk result (λ reply. IfSome files (λ held. reply ≡ after_reading path (reading MOST_FILE_BYTES (held path))))
+  pub miss : IfOk result (λ reply. IsMiss path reply files)
+  pub line : IfErr result (IsUnread path)
+  pub counts : DecideCounts result old new
+
+-- the answer for a path, where there is one
+abbrev pub Decides : Option (List ℕ) → Result Reply Stop → Option FileMap → FileCounts → FileCounts → Type 0
+Decides (Some path) result files old new = DecidesFor path result files old new
+Decides None result files old new = ((result ≡ Ok refused_words) ⊎ (result ≡ Err stops.Memory)) × (new ≡ old)

@@ -4,5 +4,6 @@
 mod deliver;
 mod limits;
 mod reply;
+mod run;
 mod stub;
 mod words;

@@ -1,12 +1,11 @@
 //! The command `stub`: a library's interface as a text.
 
-ghost use Rattle.std.specs.Prelude.{◌≡◌, ◌<◌, IfOk, IfErr, IfSome, Result};
-ghost use Rattle.ifs_outside.specs.Files.{reading};
+ghost use Rattle.std.specs.Prelude.{◌≡◌, ◌<◌, IfOk, Result};
 ghost use Rattle.elf_dyn.specs.Library.{library_of};
 ghost use Rattle.ifs_interface.specs.Extracted.{interface_of};
 ghost use Rattle.ifs_text.specs.Printed.{printed_interface};
-ghost use Rattle.ifs_top.specs.Outcome.{after_reading, outcome, printed_text, stub_of};
-ghost use Rattle.ifs_top.specs.Steps.{DecideCounts, IsMiss, IsUnread};
+ghost use Rattle.ifs_top.specs.Outcome.{printed_text, stub_of};
+ghost use Rattle.ifs_top.specs.Steps.{DecidesFor};
 
 use crate::limits::MOST_FILE_BYTES;
 use crate::reply::{Output, Reply, fault, fault_line};
@@ -80,12 +79,8 @@ fn stub_of(alloc: Global, path: &[u8], bytes: Vec<u8>) -> Result<Reply, Memory>
 
 /// The reply to a library at a path.
 pub fn stub<F: Files>(alloc: Global, path: &[u8], files: &mut F) -> Result<Reply, Stop>
-    ensures reply { IfOk result (λ reply. IfSome (F.map files.old)
-        (λ map. reply ≡ after_reading path.now (reading MOST_FILE_BYTES (map path.now)))) }
-    ensures miss { IfOk result (λ reply. IsMiss path.now reply (F.map files.old)) }
-    ensures line { IfErr result (IsUnread path.now) }
+    ensures answers { DecidesFor path.now result (F.map files.old) (F.counts files.old) (F.counts files.new) }
     ensures keeps { F.map files.new ≡ F.map files.old }
-    ensures counted { DecideCounts result (F.counts files.old) (F.counts files.new) }
 {
     match files.read(alloc, path, MOST_FILE_BYTES) {
         Ok(bytes) => Ok(stub_of(alloc, path, bytes)?),

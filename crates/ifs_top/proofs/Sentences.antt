@@ -1,0 +1,157 @@
+-- Each sentence about a run, from what its steps promise.
+use Rattle.std.proofs.Common.{◌≡◌, ◌≢◌, ℕ, ◌+◌, ◌<◌, ◌≤◌, ◌⊎◌, List, [], ◌∷◌, Option, Some, None, Result, Ok, Err, refl, sym, ap, subst, ◌∙◌, inl, inr, lit<, arith}
+use Rattle.std.specs.Prelude.{max, codes, IfSome}
+use Rattle.std.specs.Io.KnownBytes.{append_known}
+use Rattle.ifs_outside.specs.Count.{raised, Rose}
+use Rattle.ifs_outside.specs.Files.{FileMap, reading}
+use Rattle.ifs_outside.specs.declared.counts.FileCounts.{FileCounts}
+use Rattle.ifs_outside.specs.declared.cause.ReadCause.TheVariants.{Missing, TooLarge}
+use Rattle.ifs_top.specs.declared.limits.TheConstants.{MOST_FILE_BYTES}
+use Rattle.ifs_top.specs.declared.reply.Output.{Output}
+use Rattle.ifs_top.specs.declared.reply.Reply.{Reply}
+use Rattle.ifs_top.specs.declared.stub.Stop.{Stop}
+use Rattle.ifs_top.specs.declared.stub.Stop.TheVariants as stops
+use Rattle.ifs_top.specs.Outcome.{outcome, after_reading, refused_words}
+use Rattle.ifs_top.specs.Outside.{Places, Outside, Keeps, StopsWithin, PlaceRose, places, written}
+use Rattle.ifs_top.specs.Reply.{fault_line}
+use Rattle.ifs_top.specs.Runs.{Runs, Gives, WritesNothing, SaysUnread, SaysUnwritten, ReadRose, WriteRose, NoFault, read_total, write_total, outside}
+use Rattle.ifs_top.specs.Steps.{Says, Delivers, Decides, DecidesFor, DecideCounts, IsMiss, StopSays, memory_line}
+use Rattle.ifs_top.proofs.Ends.{Ends, Given, ends, keeps_stops}
+
+-- the line of a miss, for what the words ask for
+abbrev Misses : Option (List ℕ) → Reply → Option FileMap → Type 0
+Misses asked reply files = reply.status ≡ 3 → (path : List ℕ) × (asked ≡ Some path)
+    × (((reply.line ≡ fault_line path (codes "missing")) × IfSome files (λ held. reading MOST_FILE_BYTES (held path) ≡ Err Missing))
+    ⊎ ((reply.line ≡ fault_line path (codes "too large")) × IfSome files (λ held. reading MOST_FILE_BYTES (held path) ≡ Err TooLarge)))
+
+-- a reply was found
+record Decided (asked : Option (List ℕ)) (reply : Reply) (files : Option FileMap) (c d : FileCounts) : Type 0 where
+  reply_is : IfSome files (λ held. reply ≡ outcome asked held)
+  counts : DecideCounts (Ok reply) c d
+  miss : Misses asked reply files
+  refused : asked ≡ None → (reply ≡ refused_words) × (d ≡ c)
+
+told_same : (files : Option FileMap) (reply : Reply) → reply ≡ refused_words → IfSome files (λ held. reply ≡ refused_words)
+told_same None reply e = tt
+told_same (Some held) reply e = e
+
+decided : (asked : Option (List ℕ)) (reply : Reply) (files : Option FileMap) (c d : FileCounts) → Decides asked (Ok reply) files c d → Decided asked reply files c d
+decided None reply files c d h =
+    let is : reply ≡ refused_words = elim h.0 [ inl ok ↦ cc | inr memory ↦ absurd cc ] in
+    record {
+      reply_is = told_same files reply is;
+      counts = inl (rw is (lit< tt), h.1);
+      miss = λ three. absurd (omega (arith, three, ap (λ (r : Reply). r.status) is));
+      refused = λ _. (is, h.1);
+    }
+decided (Some path) reply files c d h = record {
+  reply_is = h.reply;
+  counts = h.counts;
+  miss = λ three. (path, refl, h.miss three);
+  refused = λ e. absurd cc;
+}
+
+-- the outputs of the reply, seen from before the read
+old_stops : (reply : Reply) (out : Option (List ℕ)) (of : ℕ) (files : Option FileMap) (c d : FileCounts) (q : Places) → DecideCounts (Ok reply) c d → StopsWithin reply.outputs (places out of files d) q → StopsWithin reply.outputs (places out of files c) q
+old_stops reply out of files c d q counts h =
+    elim counts [
+      | inl same ↦ subst (λ (x : FileCounts). StopsWithin reply.outputs (places out of files x) q) same.1 h
+      | inr miss ↦
+        let none : StopsWithin [] (places out of files d) q = subst (λ (os : List Output). StopsWithin os (places out of files d) q) miss.1 h in
+        keeps_stops reply.outputs (places out of files c) q none
+    ]
+
+told : (P : Reply → Type 0) (asked : Option (List ℕ)) (reply : Reply) (files : Option FileMap) → IfSome files (λ held. reply ≡ outcome asked held) → P reply → IfSome files (λ held. P (outcome asked held))
+told P asked reply None is h = tt
+told P asked reply (Some held) is h = subst P is h
+
+gives : (reply : Reply) (r : ℕ) (left : Option (List ℕ)) (i : ℕ) (out : Option (List ℕ)) (of : ℕ) (files : Option FileMap) (c d : FileCounts) (q : Places) (err later : Option (List ℕ)) (f g : ℕ)
+    → DecideCounts (Ok reply) c d → Given reply r (places out of files d) q err later → Gives reply r (outside left i out of files c err f) (record { left = left; input_faults = i; places = q; err = later; err_faults = g })
+gives reply r left i out of files c d q err later f g counts given =
+    elim counts [
+      | inl same ↦
+        let is : q ≡ written reply.outputs (places out of files c) = subst (λ (x : FileCounts). q ≡ written reply.outputs (places out of files x)) same.1 given.places in
+        record { status_is = given.status; out_is = ap (λ (x : Places). x.out) is; files_are = ap (λ (x : Places). x.files) is; writes_are = ap (λ (x : Places). x.counts.writes) is; err_is = given.line }
+      | inr miss ↦
+        let is : q ≡ places out of files d = subst (λ (os : List Output). q ≡ written os (places out of files d)) miss.1 given.places in
+        let none : written reply.outputs (places out of files c) ≡ places out of files c = ap (λ (os : List Output). written os (places out of files c)) miss.1 in
+        record {
+          status_is = given.status;
+          out_is = ap (λ (x : Places). x.out) is ∙ sym (ap (λ (x : Places). x.out) none);
+          files_are = ap (λ (x : Places). x.files) is ∙ sym (ap (λ (x : Places). x.files) none);
+          writes_are = ap (λ (x : Places). x.counts.writes) is ∙ ap (λ (x : FileCounts). x.writes) miss.3 ∙ sym (ap (λ (x : Places). x.counts.writes) none);
+          err_is = given.line;
+        }
+    ]
+
+-- the counts of reading didn't grow, unless the file was missed
+reads_grew : (reply : Reply) (r : ℕ) (left : Option (List ℕ)) (i : ℕ) (out : Option (List ℕ)) (of : ℕ) (files : Option FileMap) (c d : FileCounts) (q : Places) (err later : Option (List ℕ)) (f g : ℕ)
+    → DecideCounts (Ok reply) c d → Ends reply r (places out of files d) q err later f g
+    → read_total (outside left i out of files c err f) < read_total (record { left = left; input_faults = i; places = q; err = later; err_faults = g }) → (reply.status ≡ 3) × (reply.outputs ≡ [])
+reads_grew reply r left i out of files c d q err later f g counts e h =
+    elim counts [
+      | inl same ↦
+        let reads : q.counts.read_faults ≡ c.read_faults = e.reads ∙ ap (λ (x : FileCounts). x.read_faults) same.1 in
+        let misses : q.counts.misses ≡ c.misses = e.misses ∙ ap (λ (x : FileCounts). x.misses) same.1 in
+        absurd (omega (arith, reads, misses, h))
+      | inr miss ↦ (miss.0, miss.1)
+    ]
+
+-- where there are no outputs, nothing is written
+writes_nothing : (reply : Reply) (r : ℕ) (left : Option (List ℕ)) (i : ℕ) (out : Option (List ℕ)) (of : ℕ) (files : Option FileMap) (c d : FileCounts) (q : Places) (err later : Option (List ℕ)) (f g : ℕ)
+    → DecideCounts (Ok reply) c d → reply.outputs ≡ [] → Ends reply r (places out of files d) q err later f g
+    → WritesNothing (outside left i out of files c err f) (record { left = left; input_faults = i; places = q; err = later; err_faults = g })
+writes_nothing reply r left i out of files c d q err later f g counts none e =
+    let is : q ≡ places out of files d = e.none (ap length none) ∙ ap (λ (os : List Output). written os (places out of files d)) none in
+    let same : d.writes ≡ c.writes = elim counts [ inl same ↦ ap (λ (x : FileCounts). x.writes) same.1 | inr miss ↦ ap (λ (x : FileCounts). x.writes) miss.3 ] in
+    record {
+      keeps = (ap (λ (x : Places). x.out) is, ap (λ (x : Places). x.files) is);
+      writes_are = ap (λ (x : Places). x.counts.writes) is ∙ same;
+    }
+
+-- the faults of writing are those of the places after the read
+rose_after : (reply : Reply) (out : Option (List ℕ)) (of : ℕ) (files : Option FileMap) (c d : FileCounts) (q : Places) → DecideCounts (Ok reply) c d → PlaceRose (places out of files d) q → PlaceRose (places out of files c) q
+rose_after reply out of files c d q counts h =
+    let same : d.write_faults ≡ c.write_faults = elim counts [ inl same ↦ ap (λ (x : FileCounts). x.write_faults) same.1 | inr miss ↦ ap (λ (x : FileCounts). x.write_faults) miss.3 ] in
+    elim h [ inl rose ↦ inl rose | inr rose ↦ inr (subst (λ (n : ℕ). Rose n q.counts.write_faults) same rose) ]
+
+counts_at_most : (reply : Reply) (c d : FileCounts) → DecideCounts (Ok reply) c d → reply.status ≤ 3
+counts_at_most reply c d counts = elim counts [ inl same ↦ omega (arith, same.0) | inr miss ↦ omega (arith, miss.0) ]
+
+says_miss : (asked : Option (List ℕ)) (reply : Reply) (r : ℕ) (left : Option (List ℕ)) (i : ℕ) (out : Option (List ℕ)) (of : ℕ) (files : Option FileMap) (c d : FileCounts) (q : Places) (err later : Option (List ℕ)) (f g : ℕ)
+    → Decided asked reply files c d → Ends reply r (places out of files d) q err later f g → r ≡ 3
+    → (path : List ℕ) × (asked ≡ Some path) × SaysUnread path (outside left i out of files c err f) (record { left = left; input_faults = i; places = q; err = later; err_faults = g })
+says_miss asked reply r left i out of files c d q err later f g h e three =
+    let given = e.low (omega (arith, three)) in
+    let status : reply.status ≡ 3 = sym given.status ∙ three in
+    let missed = h.miss status in
+    let rose : Rose c.misses q.counts.misses = elim h.counts [ inl same ↦ absurd (omega (arith, same.0, status)) | inr miss ↦ subst (λ (n : ℕ). Rose c.misses n) (sym e.misses) miss.2 ] in
+    (missed.0, missed.1, elim missed.2 [ inl missing ↦ inl (given.line ∙ ap (append_known err) missing.0, rose, missing.1) | inr large ↦ inr (inl (given.line ∙ ap (append_known err) large.0, rose, large.1)) ])
+
+-- a reply that was found and delivered
+after_reply : (asked : Option (List ℕ)) (reply : Reply) (r : ℕ) (left : Option (List ℕ)) (i : ℕ) (out : Option (List ℕ)) (of : ℕ) (files : Option FileMap) (c d : FileCounts) (q : Places) (err later : Option (List ℕ)) (f g : ℕ)
+    → Decided asked reply files c d → Ends reply r (places out of files d) q err later f g
+    → Runs asked r (outside left i out of files c err f) (record { left = left; input_faults = i; places = q; err = later; err_faults = g })
+after_reply asked reply r left i out of files c d q err later f g h e =
+    let old = outside left i out of files c err f in
+    let new : Outside = record { left = left; input_faults = i; places = q; err = later; err_faults = g } in
+    let same_writes : d.write_faults ≡ c.write_faults = elim h.counts [ inl same ↦ ap (λ (x : FileCounts). x.write_faults) same.1 | inr miss ↦ ap (λ (x : FileCounts). x.write_faults) miss.3 ] in
+    let just = λ (given : Given reply r (places out of files d) q err later). gives reply r left i out of files c d q err later f g h.counts given in
+    record {
+      left = refl;
+      input_faults = refl;
+      settled = λ low. told (λ (x : Reply). Gives x r old new) asked reply files h.reply_is (just (e.low (omega (arith, low))));
+      complete = λ quiet not_five. told (λ (x : Reply). Gives x r old new) asked reply files h.reply_is (just (e.quiet quiet.err quiet.out (subst (λ (n : ℕ). q.counts.write_faults < raised n) (sym same_writes) quiet.writes) not_five));
+      three = λ three. let said = says_miss asked reply r left i out of files c d q err later f g h e three in inr (inr (elim said.2 [ inl missing ↦ missing.1 | inr other ↦ elim other [ inl large ↦ large.1 | inr failed ↦ ? ] ]));
+      four = λ four. elim (e.four four) [ inl rose ↦ inl rose | inr rose ↦ inr (rose_after reply out of files c d q h.counts rose) ];
+      at_least_three = λ grew. let miss = reads_grew reply r left i out of files c d q err later f g h.counts e grew in omega (arith, miss.0, e.least);
+      at_least_four = λ grew. e.grew (omega (arith, grew, same_writes));
+      at_most_five = e.most;
+      stops = told (λ (x : Reply). StopsWithin x.outputs (places out of files c) q) asked reply files h.reply_is (old_stops reply out of files c d q h.counts e.stops);
+      unread = λ three. ?;
+      grew_unread = λ grew. let miss = reads_grew reply r left i out of files c d q err later f g h.counts e grew in writes_nothing reply r left i out of files c d q err later f g h.counts miss.1 e;
+      read_line = λ three. says_miss asked reply r left i out of files c d q err later f g h e three;
+      write_line = λ four. elim (e.line four) [ inl rose ↦ inl rose | inr said ↦ inr (said.0, said.1, rose_after reply out of files c d q h.counts said.2) ];
+      refused = λ none. ?;
+      refused_line = λ none quiet not_five. ?;
+    }
