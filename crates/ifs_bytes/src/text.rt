@@ -1,6 +1,6 @@
 //! A text: bytes that a value owns.
 
-ghost use Rattle.std.specs.Prelude.{◌≡◌, ◌∷◌, [], refl, nat_eq, IfOk, is_ok, Some};
+ghost use Rattle.std.specs.Prelude.{◌≡◌, ◌∷◌, [], refl, nat_eq, IfOk, is_ok, take, Some};
 ghost use Rattle.ifs_bytes.specs.Outcome.{appended};
 ghost use Rattle.std.specs.Ordering.{nat_cmp};
 ghost use Rattle.std.specs.Cmp.Lexicographic.{pointwise, slice_cmp, nat_list_eq_equiv, nat_list_cmp_total, texts_ties, texts_po};
@@ -86,6 +86,13 @@ impl Text {
         ensures { self.new ≡ appended (is_ok result) self.old bytes.now }
     {
         Ok(self.bytes.extend_from_slice(bytes)?)
+    }
+
+    /// Keeps the first `len` bytes, or all where there are no more.
+    pub fn truncate(&mut self, len: usize)
+        ensures { self.new ≡ take len self.old }
+    {
+        self.bytes.truncate(len);
     }
 }
 

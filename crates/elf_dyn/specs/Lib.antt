@@ -1,0 +1,7 @@
+pub mod Strings
+pub mod Entries
+pub mod Rows
+pub mod Sections
+pub mod Hash
+pub mod Segments
+pub mod Library

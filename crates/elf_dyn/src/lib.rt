@@ -1,0 +1,22 @@
+//! The reader of shared libraries, in all four forms of ELF files: the bytes of a file give the library that
+//! they stand for, or the first cause why they don't.
+//!
+//! Both ways into a library, by its sections and by its segments, end in `Places`: where the dynamic entries,
+//! the rows of the dynamic symbol table and their strings stand in the file. All later steps know these
+//! alone, and each is a fact on places of the whole file.
+#![tactic(auto)]
+
+mod addresses;
+mod constants;
+mod entries;
+mod hash;
+mod library;
+mod places;
+mod rows;
+mod sections;
+mod segments;
+mod strings;
+
+pub use elf_file::{ElfCause, NamePlace};
+pub use ifs_interface::DynRow;
+pub use library::Library;

@@ -1,0 +1,5 @@
+pub mod Arch
+pub mod Triple
+pub mod Library
+pub mod Interface
+pub mod Extracted

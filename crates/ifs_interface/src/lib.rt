@@ -1,0 +1,22 @@
+//! What a shared library offers and wants, apart from the file that it came in.
+//!
+//! A library that was read stands for a `LibraryRecord` (specs/Library.antt): plain data. Its interface is
+//! one `Symbol` a name, by specs/Extracted.antt, and an `Interface` keeps it with the soname, the target and
+//! the needed libraries. Readers of files give records, and everything above speaks of records and
+//! interfaces alone.
+#![tactic(auto)]
+
+mod arch;
+mod interface;
+mod row;
+mod symbol;
+mod target;
+
+pub use arch::put_arch;
+pub use interface::Interface;
+pub use row::DynRow;
+pub use symbol::{Kind, Symbol};
+pub use target::{MachineFact, Target};
+
+#[cfg(test)]
+mod tests;

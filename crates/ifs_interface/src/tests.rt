@@ -1,0 +1,85 @@
+ghost use Rattle.std.specs.Prelude.{◌≡◌, IfOk};
+
+use super::*;
+use ifs_bytes::{Memory, Order, Text, Width};
+use std::alloc::Global;
+use std::test::Fail;
+
+// A weak symbol of a name.
+fn symbol(alloc: Global, name: &[u8]) -> Result<Symbol, Memory>
+    ensures { IfOk result (λ symbol. symbol.name ≡ name.now) }
+{
+    Ok(Symbol {
+        name: Text::from_slice(alloc, name)?,
+        kind: Kind::Object,
+        size: Some(4),
+        weak: true,
+        undefined: false,
+        warning: Some(Text::from_slice(alloc, b"old")?),
+    })
+}
+
+fn target() -> Target
+    ensures { result ≡ record { triple = None; machine = Some 62; order = Some Order.Little; width = Some Width.W64 } }
+{
+    Target {
+        triple: None,
+        machine: Some(62),
+        order: Some(Order::Little),
+        width: Some(Width::W64),
+    }
+}
+
+#[test]
+fn symbols_stand_in_order(rt: HostRuntime) -> Result<(), Fail> {
+    let alloc = rt.alloc();
+    let symbols = vec![in alloc; symbol(alloc, b"b")?, symbol(alloc, b"a")?]?;
+    let needed = vec![in alloc; Text::from_slice(alloc, b"libc.so.6")?]?;
+    let soname = Text::from_slice(alloc, b"libfoo.so")?;
+    match Interface::new(Some(soname), target(), needed, symbols) {
+        Err(_name) => assert!(rt; false),
+        Ok(interface) => {
+            let copy = interface.copy(alloc)?;
+            assert!(rt; copy == interface);
+            assert_eq!(rt; copy.symbols().len(), 2);
+            assert_eq!(rt; copy.symbols()[0].name.as_bytes(), b"a".as_slice());
+            assert!(rt; copy.symbols()[0].weak);
+            assert_eq!(rt; copy.symbols()[1].name.as_bytes(), b"b".as_slice());
+            assert_eq!(rt; copy.needed_list().len(), 1);
+            assert!(rt; copy.soname().is_some());
+            assert_eq!(rt; copy.target().machine, Some(62));
+        }
+    }
+    Ok(())
+}
+
+#[test]
+fn the_least_repeated_name(rt: HostRuntime) -> Result<(), Fail> {
+    let alloc = rt.alloc();
+    let symbols = vec![in alloc;
+        symbol(alloc, b"c")?,
+        symbol(alloc, b"b")?,
+        symbol(alloc, b"a")?,
+        symbol(alloc, b"c")?,
+        symbol(alloc, b"b")?,
+    ]?;
+    match Interface::new(None, target(), Vec::new(alloc), symbols) {
+        Err(name) => assert_eq!(rt; name.as_bytes(), b"b".as_slice()),
+        Ok(_interface) => assert!(rt; false),
+    }
+    Ok(())
+}
+
+#[test]
+fn machines(rt: HostRuntime) -> Result<(), Fail> {
+    let mut text = Text::new(rt.alloc());
+    for machine in [62, 183, 3, 65535] {
+        put_arch(&mut text, machine)?;
+        text.push(b' ')?;
+    }
+    assert_eq!(rt;
+        text.as_bytes(),
+        b"x86_64 AArch64 i386 EM_65535 ".as_slice()
+    );
+    Ok(())
+}

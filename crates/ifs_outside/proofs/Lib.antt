@@ -1,0 +1,5 @@
+pub mod Compared
+pub mod Held
+pub mod Prefix
+pub mod Taken
+pub mod ToLimit

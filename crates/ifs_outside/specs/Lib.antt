@@ -1,0 +1,9 @@
+pub mod Cause
+pub mod Count
+pub mod Files
+pub mod MemoryFiles
+pub mod MemorySink
+pub mod MemorySource
+pub mod Schedule
+pub mod Sink
+pub mod Source

@@ -1,0 +1,47 @@
+//! A sink over a writer of std.
+
+ghost use Rattle.std.specs.Prelude.{◌≡◌, None};
+
+use crate::cause::WriteCause;
+use crate::sink::Sink;
+use std::io;
+use std::io::Write;
+
+/// A writer as a sink. What was written isn't told.
+#[derive(Debug, Drop)]
+pub struct StdSink<W> {
+    writer: W,
+    faults: u64,
+}
+
+impl<W: Write> StdSink<W> {
+    /// The sink of what the writer takes.
+    pub fn new(writer: W) -> StdSink<W>
+        ensures { result.faults ≡ 0 }
+    {
+        StdSink { writer, faults: 0 }
+    }
+}
+
+// Writes a piece, and whatever the writer holds back.
+fn write_through<W: Write>(writer: &mut W, piece: &[u8]) -> io::Result<()> {
+    writer.write_all(piece)?;
+    writer.flush()
+}
+
+impl<W: Write> Sink for StdSink<W> {
+    ghost written = { λ _. None };
+
+    ghost faults = { λ sink. sink.faults };
+
+    /// Writes the whole piece, and flushes, so that a device without room shows here.
+    fn write(&mut self, piece: &[u8]) -> Result<usize, WriteCause> {
+        match write_through(&mut self.writer, piece) {
+            Ok(()) => Ok(piece.len()),
+            Err(_) => {
+                self.faults = self.faults.saturating_add(1);
+                Err(WriteCause::Failed)
+            }
+        }
+    }
+}

@@ -1,0 +1,6 @@
+pub mod NameOrder
+pub mod Lists
+pub mod InOrder
+pub mod Runs
+pub mod Pointed
+pub mod Sorting
