@@ -1,4 +1,4 @@
-//! An ELF file with its header.
+//! An ELF file with its header (gABI, "ELF Header").
 
 ghost use Rattle.std.specs.Prelude.{◌≡◌, ◌+◌, ◌≤◌, length, nat_lt, Some, None, IfOk, if◌then◌else◌};
 
@@ -30,7 +30,12 @@ impl<'a> Elf<'a> {
     ghost use Rattle.elf_file.specs.ElfFile.{HeaderFits, elf_of};
     ghost use Rattle.elf_file.specs.Header.{section_in, segment_in};
 
-    /// The file with these bytes, or the first cause why it can't be read.
+    /// The file with these bytes, or the first cause why it can't be read, in this order: `Archive`;
+    /// `NotElf` without the magic number; `Truncated(0)` below the 16 bytes of e_ident; `BadHeader` for
+    /// another class, byte order or version; `Truncated(0)` where the file header isn't whole; `BadHeader`
+    /// for a table whose records have another size than the width's, or more program headers than
+    /// e_phnum can say; `Truncated` with e_phoff or e_shoff where that table doesn't lie in the file. It
+    /// takes no memory.
     pub fn parse(bytes: &'a [u8]) -> Result<Elf<'a>, ElfCause>
         ensures exact { result ≡ elf_of bytes.now }
         ensures fits { IfOk result (λ elf. HeaderFits elf.bytes elf.header) }

@@ -3,6 +3,9 @@
 //! end of a vector; `Elf::parse` answers the header of a file with its two tables, or the first cause why
 //! it can't be read. The width and the order are parameters of one table of places for each record, so
 //! nothing here is written twice.
+//!
+//! Only the put calls and `ElfCause::printed` take memory. No clause ties their `Memory` to a refused
+//! growth, so a body that always answers it would meet them; the tests show that each call succeeds.
 #![tactic(auto)]
 
 mod cause;
