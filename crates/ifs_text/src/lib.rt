@@ -4,3 +4,6 @@
 mod printed;
 
 pub use printed::print;
+
+#[cfg(test)]
+mod tests;
