@@ -17,7 +17,7 @@ pub struct StdSink<W> {
 impl<W: Write> StdSink<W> {
     /// The sink of what the writer takes.
     pub fn new(writer: W) -> StdSink<W>
-        ensures { result.faults ≡ 0 }
+        ensures { ⟦<StdSink<W> as Sink>⟧.faults result ≡ 0 }
     {
         StdSink { writer, faults: 0 }
     }

@@ -19,7 +19,7 @@ pub struct StdSource<R> {
 impl<R: Read> StdSource<R> {
     /// The source of what the reader gives.
     pub fn new(reader: R) -> StdSource<R>
-        ensures { result.faults ≡ 0 }
+        ensures { ⟦<StdSource<R> as Source>⟧.faults result ≡ 0 }
     {
         StdSource { reader, faults: 0 }
     }
