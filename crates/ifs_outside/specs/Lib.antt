@@ -7,3 +7,4 @@ pub mod MemorySource
 pub mod Schedule
 pub mod Sink
 pub mod Source
+pub mod StdForms

@@ -4,7 +4,7 @@ ghost use Rattle.std.specs.Prelude.{◌≡◌, IfOk};
 ghost use Rattle.ifs_outside.specs.Cause.{printed_read_cause, printed_write_cause};
 
 use ifs_bytes::{Memory, Text};
-use std::alloc::{AllocError, AllocFailed, Global};
+use std::alloc::{AllocError, Global};
 
 /// A fault of the outside; it was counted where it came from.
 #[derive(Clone, Copy, Debug, PartialEq, Eq)]
@@ -68,26 +68,6 @@ impl From<AllocError> for ReadCause {
     }
 }
 
-impl From<Memory> for ReadCause {
-    ghost use Rattle.ifs_outside.specs.declared.cause.ReadCause.TheVariants.{Memory as NoMemory};
-
-    ghost from_gives = { λ _ cause. cause ≡ NoMemory };
-
-    fn from(_error: Memory) -> ReadCause {
-        ReadCause::Memory
-    }
-}
-
-impl From<Failed> for ReadCause {
-    ghost use Rattle.ifs_outside.specs.declared.cause.ReadCause.TheVariants.{Failed as Fault};
-
-    ghost from_gives = { λ _ cause. cause ≡ Fault };
-
-    fn from(_error: Failed) -> ReadCause {
-        ReadCause::Failed
-    }
-}
-
 impl From<Memory> for WriteCause {
     ghost use Rattle.ifs_outside.specs.declared.cause.WriteCause.TheVariants.{Memory as NoMemory};
 
@@ -105,15 +85,5 @@ impl From<AllocError> for WriteCause {
 
     fn from(_error: AllocError) -> WriteCause {
         WriteCause::Memory
-    }
-}
-
-impl From<Failed> for WriteCause {
-    ghost use Rattle.ifs_outside.specs.declared.cause.WriteCause.TheVariants.{Failed as Fault};
-
-    ghost from_gives = { λ _ cause. cause ≡ Fault };
-
-    fn from(_error: Failed) -> WriteCause {
-        WriteCause::Failed
     }
 }

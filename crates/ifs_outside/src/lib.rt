@@ -1,8 +1,9 @@
 //! The outside of `ifs`: bytes that are read to their end, bytes that are written, and files. Each is a
 //! trait whose contract says what a call gives, what it leaves, and that a fault is answered only where
 //! the object that was handed in counted one. The forms in memory tell all that they hold and fail at
-//! the calls that a list names; the forms over std tell nothing, since no contract can say what a real
-//! file holds.
+//! the calls that a list names, and at no others. The forms over std tell nothing: no contract can say
+//! what a real file holds, so a StdFiles whose `same` always answered false would meet the trait too. What
+//! they make of a reader or a writer whose bytes are known is proved beside it, and tests show the rest.
 #![tactic(auto)]
 
 mod cause;
@@ -30,3 +31,6 @@ pub use source::Source;
 pub use std_files::StdFiles;
 pub use std_sink::StdSink;
 pub use std_source::StdSource;
+
+#[cfg(test)]
+mod tests;

@@ -1,6 +1,6 @@
 //! Files in memory.
 
-ghost use Rattle.std.specs.Prelude.{◌≡◌, ◌≤◌, ◌↔◌, [], length, Some, None, IsTrue, IsErr, IsErrOf, IfOk, OnOk, OnErr, vec_len};
+ghost use Rattle.std.specs.Prelude.{◌≡◌, ◌≤◌, ◌↔◌, [], Some, None, IsTrue, IsErr, IsErrOf, IfOk, OnOk, OnErr, vec_len};
 ghost use Rattle.std.specs.Option.{option_copied};
 ghost use Rattle.ifs_outside.specs.Files.{put, no_counts, reading, ReadTells, ReadCounts, SameTells, SameCounts, Stores, WriteCounts};
 ghost use Rattle.ifs_outside.specs.MemoryFiles.{held_in};

@@ -24,7 +24,7 @@ pub struct StdFiles<R> {
 impl<R: rt::Files> StdFiles<R> {
     /// The files of the runtime.
     pub fn new(runtime: R) -> StdFiles<R>
-        ensures { result.counts ≡ no_counts }
+        ensures { ⟦<StdFiles<R> as Files>⟧.counts result ≡ no_counts }
     {
         StdFiles {
             runtime,

@@ -1,8 +1,10 @@
 //! A source over a reader of std.
 
-ghost use Rattle.std.specs.Prelude.{◌≡◌, None, IfOk};
+ghost use Rattle.std.specs.Prelude.{◌≡◌, None};
 ghost use Rattle.std.specs.Io.{ReadsAtMost};
 ghost use Rattle.std.specs.Io.KnownBytes.{ReadConsumes};
+ghost use Rattle.ifs_outside.specs.Source.{Takes, SourceCounts};
+ghost use Rattle.ifs_outside.specs.StdForms.{reader_of};
 
 use crate::cause::Failed;
 use crate::source::Source;
@@ -19,7 +21,8 @@ pub struct StdSource<R> {
 impl<R: Read> StdSource<R> {
     /// The source of what the reader gives.
     pub fn new(reader: R) -> StdSource<R>
-        ensures { result.faults ≡ 0 }
+        ensures reader { reader_of result ≡ reader }
+        ensures faults { ⟦<StdSource<R> as Source>⟧.faults result ≡ 0 }
     {
         StdSource { reader, faults: 0 }
     }
@@ -44,7 +47,12 @@ impl<R: Read> Source for StdSource<R> {
 
     ghost faults = { λ source. source.faults };
 
-    fn read(&mut self, into: &mut [u8]) -> Result<usize, Failed> {
+    /// One read of the reader.
+    fn read(&mut self, into: &mut [u8]) -> Result<usize, Failed>
+        ensures takes { Takes result into.new None None }
+        ensures counted { SourceCounts result (⟦<StdSource<R> as Source>⟧.faults self.old) (⟦<StdSource<R> as Source>⟧.faults self.new) }
+        ensures bytes { ReadConsumes (R.remaining (reader_of self.old)) (R.remaining (reader_of self.new)) result into.new }
+    {
         match read_once(&mut self.reader, into) {
             Ok(count) => Ok(count),
             Err(_) => {
