@@ -1,7 +1,7 @@
 -- Lists: tests of all elements, filters, and the front that passes a test.
-use Rattle.std.proofs.Common.{◌≡◌, ℕ, zero, suc, ◌+◌, Bool, true, false, cond, not, ◌&&◌, ◌||◌, List, [], ◌∷◌, ◌++◌, length, map, take, drop, Option, Some, option_map, refl, sym, ap, ◌∙◌}
-use Rattle.std.specs.List.{list_all, list_any, filter, find, prefix_len}
-use Rattle.std.proofs.lemmas.Bool.{and_parts, and_from, true≢false, false≢true}
+use Rattle.std.proofs.Common.{◌≡◌, ◌+◌, Bool, true, false, cond, ◌||◌, List, [], ◌∷◌, map, refl, ap, ◌∙◌}
+use Rattle.std.specs.List.{list_all, list_any, filter, prefix_len}
+use Rattle.std.proofs.lemmas.Bool.{and_parts}
 
 pub filter_all : {X : Type 0} (p : X → Bool) (xs : List X) → list_all p xs ≡ true → filter p xs ≡ xs
 filter_all p [] h = refl
@@ -43,13 +43,6 @@ filter_map_of p f (x ∷ xs) =
     let rest = filter_map_of p f xs in
     elim (p (f x)) as (λ t. cond t (f x ∷ filter p (map f xs)) (filter p (map f xs)) ≡ map f (cond t (x ∷ filter (λ z. p (f z)) xs) (filter (λ z. p (f z)) xs)))
     [ true ↦ ap (λ ys. f x ∷ ys) rest | false ↦ rest ]
-
-pub find_map_of : {X Y : Type 0} (p : Y → Bool) (f : X → Y) (xs : List X) → find p (map f xs) ≡ option_map f (find (λ x. p (f x)) xs)
-find_map_of p f [] = refl
-find_map_of p f (x ∷ xs) =
-    let rest = find_map_of p f xs in
-    elim (p (f x)) as (λ t. cond t (Some (f x)) (find p (map f xs)) ≡ option_map f (cond t (Some x) (find (λ z. p (f z)) xs)))
-    [ true ↦ refl | false ↦ rest ]
 
 pub any_map_of : {X Y : Type 0} (p : Y → Bool) (f : X → Y) (xs : List X) → list_any p (map f xs) ≡ list_any (λ x. p (f x)) xs
 any_map_of p f [] = refl

@@ -62,8 +62,8 @@ fn is_weak(row: &DynRow) -> bool
     row.binding == 2
 }
 
-#[tactic(auto, using(crate::proofs::Pointed::find_defined_from))]
 // The first row whose symbol the library defines.
+#[tactic(auto, using(crate::proofs::Pointed::find_defined_from))]
 fn first_defined<'a>(rows: &[&'a DynRow]) -> Option<&'a DynRow>
     ensures { option_copied result ≡ find is_defined (pointed rows.now) }
 {

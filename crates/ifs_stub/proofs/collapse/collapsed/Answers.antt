@@ -1,5 +1,4 @@
-use Rattle.std.proofs.Common.{◌≡◌, ◌<◌, ◌≤◌, ◌+◌, List, length, arith, rules}
-use Rattle.ifs_stub.specs.Rows.{pointed, run_length}
+use Rattle.std.proofs.Common.{◌≡◌, length, arith}
 use Rattle.ifs_stub.proofs.Sorting.{run_length_within, symbols_more, symbols_end}
 use Rattle.ifs_stub.proofs.collapse.collapsed.Goals as goal
 

@@ -1,4 +1,4 @@
-use Rattle.std.proofs.Common.{◌≡◌, rules, tests}
+use Rattle.std.proofs.Common.{◌≡◌, rules}
 use Rattle.std.proofs.lemmas.List.Sorted.{answers_always}
 use Rattle.ifs_stub.specs.Rows.{pointed}
 use Rattle.ifs_stub.proofs.Sorting.{before, before_ranks, sorted_by_name}
