@@ -1,5 +1,5 @@
 -- Each sentence about a run, from what its steps promise.
-use Rattle.std.proofs.Common.{◌≡◌, ◌≢◌, ℕ, ◌+◌, ◌<◌, ◌≤◌, ◌⊎◌, List, [], ◌∷◌, Option, Some, None, Result, Ok, Err, refl, sym, ap, subst, ◌∙◌, inl, inr, lit<, arith}
+use Rattle.std.proofs.Common.{◌≡◌, ◌≢◌, ℕ, ◌+◌, ◌<◌, ◌≤◌, ◌⊎◌, List, [], ◌∷◌, length, Option, Some, None, Result, Ok, Err, refl, sym, ap, subst, ◌∙◌, inl, inr, lit<, arith}
 use Rattle.std.specs.Prelude.{max, codes, IfSome}
 use Rattle.std.specs.Io.KnownBytes.{append_known}
 use Rattle.ifs_outside.specs.Count.{raised, Rose}
@@ -128,6 +128,26 @@ says_miss asked reply r left i out of files c d q err later f g h e three =
     let rose : Rose c.misses q.counts.misses = elim h.counts [ inl same ↦ absurd (omega (arith, same.0, status)) | inr miss ↦ subst (λ (n : ℕ). Rose c.misses n) (sym e.misses) miss.2 ] in
     (missed.0, missed.1, elim missed.2 [ inl missing ↦ inl (given.line ∙ ap (append_known err) missing.0, rose, missing.1) | inr large ↦ inr (inl (given.line ∙ ap (append_known err) large.0, rose, large.1)) ])
 
+three_rose : (old new : Outside) {asked : Option (List ℕ)} → ((path : List ℕ) × (asked ≡ Some path) × SaysUnread path old new) → ReadRose old new
+three_rose old new said =
+    elim said.2 [
+      | inl missing ↦ inr (inr missing.1)
+      | inr other ↦ elim other [ inl large ↦ inr (inr large.1) | inr failed ↦ inr (inl failed.1) ]
+    ]
+
+missed_outputs : (reply : Reply) (r : ℕ) (out : Option (List ℕ)) (of : ℕ) (files : Option FileMap) (c d : FileCounts) (q : Places) (err later : Option (List ℕ)) (f g : ℕ)
+    → DecideCounts (Ok reply) c d → Ends reply r (places out of files d) q err later f g → r ≡ 3 → reply.outputs ≡ []
+missed_outputs reply r out of files c d q err later f g counts e three =
+    let given = e.low (omega (arith, three)) in
+    elim counts [ inl same ↦ absurd (omega (arith, same.0, three, given.status)) | inr miss ↦ miss.1 ]
+
+refused_places : (asked : Option (List ℕ)) (reply : Reply) (r : ℕ) (out : Option (List ℕ)) (of : ℕ) (files : Option FileMap) (c d : FileCounts) (q : Places) (err later : Option (List ℕ)) (f g : ℕ)
+    → Decided asked reply files c d → Ends reply r (places out of files d) q err later f g → asked ≡ None → q ≡ places out of files c
+refused_places asked reply r out of files c d q err later f g h e none =
+    let is = h.refused none in
+    let outputs : reply.outputs ≡ [] = ap (λ (x : Reply). x.outputs) is.0 in
+    e.none (ap length outputs) ∙ ap (λ (os : List Output). written os (places out of files d)) outputs ∙ ap (places out of files) is.1
+
 -- a reply that was found and delivered
 after_reply : (asked : Option (List ℕ)) (reply : Reply) (r : ℕ) (left : Option (List ℕ)) (i : ℕ) (out : Option (List ℕ)) (of : ℕ) (files : Option FileMap) (c d : FileCounts) (q : Places) (err later : Option (List ℕ)) (f g : ℕ)
     → Decided asked reply files c d → Ends reply r (places out of files d) q err later f g
@@ -142,16 +162,116 @@ after_reply asked reply r left i out of files c d q err later f g h e =
       input_faults = refl;
       settled = λ low. told (λ (x : Reply). Gives x r old new) asked reply files h.reply_is (just (e.low (omega (arith, low))));
       complete = λ quiet not_five. told (λ (x : Reply). Gives x r old new) asked reply files h.reply_is (just (e.quiet quiet.err quiet.out (subst (λ (n : ℕ). q.counts.write_faults < raised n) (sym same_writes) quiet.writes) not_five));
-      three = λ three. let said = says_miss asked reply r left i out of files c d q err later f g h e three in inr (inr (elim said.2 [ inl missing ↦ missing.1 | inr other ↦ elim other [ inl large ↦ large.1 | inr failed ↦ ? ] ]));
+      three = λ three. three_rose old new (says_miss asked reply r left i out of files c d q err later f g h e three);
       four = λ four. elim (e.four four) [ inl rose ↦ inl rose | inr rose ↦ inr (rose_after reply out of files c d q h.counts rose) ];
       at_least_three = λ grew. let miss = reads_grew reply r left i out of files c d q err later f g h.counts e grew in omega (arith, miss.0, e.least);
       at_least_four = λ grew. e.grew (omega (arith, grew, same_writes));
       at_most_five = e.most;
       stops = told (λ (x : Reply). StopsWithin x.outputs (places out of files c) q) asked reply files h.reply_is (old_stops reply out of files c d q h.counts e.stops);
-      unread = λ three. ?;
+      unread = λ three. writes_nothing reply r left i out of files c d q err later f g h.counts (missed_outputs reply r out of files c d q err later f g h.counts e three) e;
       grew_unread = λ grew. let miss = reads_grew reply r left i out of files c d q err later f g h.counts e grew in writes_nothing reply r left i out of files c d q err later f g h.counts miss.1 e;
       read_line = λ three. says_miss asked reply r left i out of files c d q err later f g h e three;
       write_line = λ four. elim (e.line four) [ inl rose ↦ inl rose | inr said ↦ inr (said.0, said.1, rose_after reply out of files c d q h.counts said.2) ];
-      refused = λ none. ?;
-      refused_line = λ none quiet not_five. ?;
+      refused = λ none. refused_places asked reply r out of files c d q err later f g h e none;
+      refused_line = λ none quiet not_five.
+        let given = e.quiet quiet.err quiet.out (subst (λ (n : ℕ). q.counts.write_faults < raised n) (sym same_writes) quiet.writes) not_five in
+        let is = (h.refused none).0 in
+        (given.status ∙ ap (λ (x : Reply). x.status) is, given.line ∙ ap (λ (x : Reply). append_known err x.line) is);
+    }
+
+-- a run whose words gave a reply
+pub replied : (asked : Option (List ℕ)) (reply : Reply) (r : ℕ) (left : Option (List ℕ)) (i : ℕ) (out : Option (List ℕ)) (of : ℕ) (files later_files : Option FileMap) (c d : FileCounts) (q : Places) (err later : Option (List ℕ)) (f g : ℕ)
+    → Decides asked (Ok reply) files c d → later_files ≡ files → Delivers reply r (places out of later_files d) q err later f g
+    → Runs asked r (outside left i out of files c err f) (record { left = left; input_faults = i; places = q; err = later; err_faults = g })
+replied asked reply r left i out of files later_files c d q err later f g decides keeps delivers =
+    let h = decided asked reply files c d decides in
+    let at : Delivers reply r (places out of files d) q err later f g = subst (λ (m : Option FileMap). Delivers reply r (places out of m d) q err later f g) keeps delivers in
+    after_reply asked reply r left i out of files c d q err later f g h (ends reply r (places out of files d) q err later f g (counts_at_most reply c d h.counts) at)
+
+-- why a run ended before it knew what to answer
+record Halted (asked : Option (List ℕ)) (r : ℕ) (c d : FileCounts) (err later : Option (List ℕ)) (f g : ℕ) : Type 0 where
+  least : 3 ≤ r
+  most : r ≤ 5
+  four : r ≡ 4 → Rose f g
+  grew : f < g → 4 ≤ r
+  loud : d.read_faults < raised c.read_faults → r ≢ 5 → ⊥
+  line : r ≡ 3 → (path : List ℕ) × (asked ≡ Some path) × (later ≡ append_known err (fault_line path (codes "read failed"))) × Rose c.read_faults d.read_faults
+  writes : d.writes ≡ c.writes
+  write_faults : d.write_faults ≡ c.write_faults
+  refused : asked ≡ None → d ≡ c
+
+five_at_memory : (r : ℕ) (err later : Option (List ℕ)) (f g : ℕ) → Says memory_line 5 r err later f g → r ≡ 5
+five_at_memory r err later f g says = elim says [ inl said ↦ said.0 | inr other ↦ elim other [ inl failed ↦ omega (arith, failed.0) | inr spent ↦ spent.0 ] ]
+
+no_memory : (asked : Option (List ℕ)) (r : ℕ) (c d : FileCounts) (err later : Option (List ℕ)) (f g : ℕ) → d.writes ≡ c.writes → d.write_faults ≡ c.write_faults → (asked ≡ None → d ≡ c) → Says memory_line 5 r err later f g → Halted asked r c d err later f g
+no_memory asked r c d err later f g writes faults refused says =
+    let five = five_at_memory r err later f g says in
+    record {
+      least = omega (arith, five);
+      most = omega (arith, five);
+      four = λ e. absurd (omega (arith, e, five));
+      grew = λ _. omega (arith, five);
+      loud = λ _ h. h five;
+      line = λ e. absurd (omega (arith, e, five));
+      writes = writes;
+      write_faults = faults;
+      refused = refused;
+    }
+
+read_failed : (path line : List ℕ) (r : ℕ) (c d : FileCounts) (err later : Option (List ℕ)) (f g : ℕ) → line ≡ fault_line path (codes "read failed") → Rose c.read_faults d.read_faults → d ≡ record c { read_faults = d.read_faults } → Says line 3 r err later f g → Halted (Some path) r c d err later f g
+read_failed path line r c d err later f g is rose counts says =
+    let bounds : (3 ≤ r) × (r ≤ 5) = elim says [ inl said ↦ (omega (arith, said.0), omega (arith, said.0)) | inr other ↦ elim other [ inl failed ↦ (omega (arith, failed.0), omega (arith, failed.0)) | inr spent ↦ (omega (arith, spent.0), omega (arith, spent.0)) ] ] in
+    record {
+      least = bounds.0;
+      most = bounds.1;
+      four = λ e. elim says [ inl said ↦ absurd (omega (arith, e, said.0)) | inr other ↦ elim other [ inl failed ↦ failed.1 | inr spent ↦ absurd (omega (arith, e, spent.0)) ] ];
+      grew = λ h. elim says [ inl said ↦ absurd (omega (arith, h, said.2)) | inr other ↦ elim other [ inl failed ↦ omega (arith, failed.0) | inr spent ↦ omega (arith, spent.0) ] ];
+      loud = λ h _. omega (arith, h, rose);
+      line = λ e. elim says [
+        | inl said ↦ (path, refl, said.1 ∙ ap (append_known err) is, rose)
+        | inr other ↦ elim other [ inl failed ↦ absurd (omega (arith, e, failed.0)) | inr spent ↦ absurd (omega (arith, e, spent.0)) ]
+        ];
+      writes = ap (λ (x : FileCounts). x.writes) counts;
+      write_faults = ap (λ (x : FileCounts). x.write_faults) counts;
+      refused = λ e. absurd cc;
+    }
+
+halted : (asked : Option (List ℕ)) (stop : Stop) (r : ℕ) (files : Option FileMap) (c d : FileCounts) (err later : Option (List ℕ)) (f g : ℕ) → Decides asked (Err stop) files c d → StopSays stop r err later f g → Halted asked r c d err later f g
+halted None (stops.Unread line) r files c d err later f g h says = absurd (elim h.0 [ inl ok ↦ cc | inr memory ↦ cc ])
+halted None stops.Memory r files c d err later f g h says =
+    no_memory None r c d err later f g (ap (λ (x : FileCounts). x.writes) h.1) (ap (λ (x : FileCounts). x.write_faults) h.1) (λ _. h.1) says
+halted (Some path) (stops.Unread line) r files c d err later f g h says = read_failed path line r c d err later f g h.line h.counts.0 h.counts.1 says
+halted (Some path) stops.Memory r files c d err later f g h says =
+    no_memory (Some path) r c d err later f g (ap (λ (x : FileCounts). x.writes) h.counts) (ap (λ (x : FileCounts). x.write_faults) h.counts) (λ e. absurd cc) says
+
+all_told : (asked : Option (List ℕ)) (files : Option FileMap) (P : Reply → Type 0) → ((reply : Reply) → P reply) → IfSome files (λ held. P (outcome asked held))
+all_told asked None P h = tt
+all_told asked (Some held) P h = h (outcome asked held)
+
+-- a run that ended before it knew what to answer
+pub stopped_run : (asked : Option (List ℕ)) (stop : Stop) (r : ℕ) (left : Option (List ℕ)) (i : ℕ) (out : Option (List ℕ)) (of : ℕ) (files later_files : Option FileMap) (c d : FileCounts) (err later : Option (List ℕ)) (f g : ℕ)
+    → Decides asked (Err stop) files c d → later_files ≡ files → StopSays stop r err later f g
+    → Runs asked r (outside left i out of files c err f) (outside left i out of later_files d later g)
+stopped_run asked stop r left i out of files later_files c d err later f g decides keeps says =
+    let h = halted asked stop r files c d err later f g decides says in
+    let old = outside left i out of files c err f in
+    let new = outside left i out of later_files d later g in
+    let nothing : WritesNothing old new = record { keeps = (refl, keeps); writes_are = h.writes } in
+    record {
+      left = refl;
+      input_faults = refl;
+      settled = λ low. absurd (omega (arith, low, h.least));
+      complete = λ quiet not_five. absurd (h.loud quiet.reads not_five);
+      three = λ three. inr (inl (h.line three).3);
+      four = λ four. inl (h.four four);
+      at_least_three = λ _. h.least;
+      at_least_four = λ grew. h.grew (omega (arith, grew, h.write_faults));
+      at_most_five = h.most;
+      stops = all_told asked files (λ x. StopsWithin x.outputs (places out of files c) (places out of later_files d)) (λ x. keeps_stops x.outputs (places out of files c) (places out of later_files d) (refl, keeps));
+      unread = λ _. nothing;
+      grew_unread = λ _. nothing;
+      read_line = λ three. let said = h.line three in (said.0, said.1, inr (inr (said.2, said.3)));
+      write_line = λ four. inl (h.four four);
+      refused = λ none. ap (λ (m : Option FileMap). places out of m d) keeps ∙ ap (places out of files) (h.refused none);
+      refused_line = λ none quiet not_five. absurd (h.loud quiet.reads not_five);
     }
