@@ -70,46 +70,46 @@ whole reply r p q err later f g three is says =
     let stops : StopsWithin reply.outputs p q = subst (λ (x : Places). StopsWithin reply.outputs p x) (sym is) (written_stops reply.outputs p) in
     elim says [
       | inl said ↦ record {
+        stops = stops;
+        none = λ _. is;
+        reads = same.reads;
+        misses = same.misses;
+        most = omega (arith, said.0);
+        least = omega (arith, said.0);
+        four = λ e. absurd (omega (arith, said.0));
+        grew = λ h. absurd (omega (arith, said.2, same.out, same.writes, h));
+        low = λ _. record { status = said.0; places = is; line = said.1 };
+        quiet = λ _ _ _ _. record { status = said.0; places = is; line = said.1 };
+        line = λ e. absurd (omega (arith, said.0));
+      }
+      | inr other ↦ elim other [
+        | inl failed ↦ record {
           stops = stops;
           none = λ _. is;
           reads = same.reads;
           misses = same.misses;
-          most = omega (arith, said.0);
-          least = omega (arith, said.0);
-          four = λ e. absurd (omega (arith, said.0));
-          grew = λ h. absurd (omega (arith, said.2, same.out, same.writes, h));
-          low = λ _. record { status = said.0; places = is; line = said.1 };
-          quiet = λ _ _ _ _. record { status = said.0; places = is; line = said.1 };
-          line = λ e. absurd (omega (arith, said.0));
+          most = omega (arith, failed.0);
+          least = omega (arith, failed.0);
+          four = λ _. inl failed.1;
+          grew = λ _. omega (arith, failed.0);
+          low = λ h. absurd (omega (arith, failed.0));
+          quiet = λ h _ _ _. absurd (omega (arith, h, failed.1));
+          line = λ _. inl failed.1;
         }
-      | inr other ↦ elim other [
-        | inl failed ↦ record {
-            stops = stops;
-            none = λ _. is;
-            reads = same.reads;
-            misses = same.misses;
-            most = omega (arith, failed.0);
-            least = omega (arith, failed.0);
-            four = λ _. inl failed.1;
-            grew = λ _. omega (arith, failed.0);
-            low = λ h. absurd (omega (arith, failed.0));
-            quiet = λ h _ _ _. absurd (omega (arith, h, failed.1));
-            line = λ _. inl failed.1;
-          }
         | inr spent ↦ record {
-            stops = stops;
-            none = λ _. is;
-            reads = same.reads;
-            misses = same.misses;
-            most = omega (arith, spent.0);
-            least = omega (arith, spent.0);
-            four = λ e. absurd (omega (arith, spent.0));
-            grew = λ _. omega (arith, spent.0);
-            low = λ h. absurd (omega (arith, spent.0));
-            quiet = λ _ _ _ h. absurd (h spent.0);
-            line = λ e. absurd (omega (arith, spent.0));
-          }
-        ]
+          stops = stops;
+          none = λ _. is;
+          reads = same.reads;
+          misses = same.misses;
+          most = omega (arith, spent.0);
+          least = omega (arith, spent.0);
+          four = λ e. absurd (omega (arith, spent.0));
+          grew = λ _. omega (arith, spent.0);
+          low = λ h. absurd (omega (arith, spent.0));
+          quiet = λ _ _ _ h. absurd (h spent.0);
+          line = λ e. absurd (omega (arith, spent.0));
+        }
+      ]
     ]
 
 -- an output failed
@@ -155,5 +155,5 @@ ends reply r p q err later f g three delivers =
       | inr other ↦ elim other [
         | inl one ↦ spoilt reply r p q err later f g one.0 three one.1 one.2 one.3 one.4
         | inr none ↦ without_memory reply r p q err later f g three none.0 none.1 none.2 none.3
-        ]
+      ]
     ]

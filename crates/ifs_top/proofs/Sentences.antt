@@ -57,8 +57,8 @@ old_stops reply out of files c d q counts h =
     elim counts [
       | inl same ↦ subst (λ (x : FileCounts). StopsWithin reply.outputs (places out of files x) q) same.1 h
       | inr miss ↦
-        let none : StopsWithin [] (places out of files d) q = subst (λ (os : List Output). StopsWithin os (places out of files d) q) miss.1 h in
-        keeps_stops reply.outputs (places out of files c) q none
+          let none : StopsWithin [] (places out of files d) q = subst (λ (os : List Output). StopsWithin os (places out of files d) q) miss.1 h in
+          keeps_stops reply.outputs (places out of files c) q none
     ]
 
 told : (P : Reply → Type 0) (asked : Option (List ℕ)) (reply : Reply) (files : Option FileMap) → IfSome files (λ held. reply ≡ outcome asked held) → P reply → IfSome files (λ held. P (outcome asked held))
@@ -70,18 +70,18 @@ gives : (reply : Reply) (r : ℕ) (left : Option (List ℕ)) (i : ℕ) (out : Op
 gives reply r left i out of files c d q err later f g counts given =
     elim counts [
       | inl same ↦
-        let is : q ≡ written reply.outputs (places out of files c) = subst (λ (x : FileCounts). q ≡ written reply.outputs (places out of files x)) same.1 given.places in
-        record { status_is = given.status; out_is = ap (λ (x : Places). x.out) is; files_are = ap (λ (x : Places). x.files) is; writes_are = ap (λ (x : Places). x.counts.writes) is; err_is = given.line }
+          let is : q ≡ written reply.outputs (places out of files c) = subst (λ (x : FileCounts). q ≡ written reply.outputs (places out of files x)) same.1 given.places in
+          record { status_is = given.status; out_is = ap (λ (x : Places). x.out) is; files_are = ap (λ (x : Places). x.files) is; writes_are = ap (λ (x : Places). x.counts.writes) is; err_is = given.line }
       | inr miss ↦
-        let is : q ≡ places out of files d = subst (λ (os : List Output). q ≡ written os (places out of files d)) miss.1 given.places in
-        let none : written reply.outputs (places out of files c) ≡ places out of files c = ap (λ (os : List Output). written os (places out of files c)) miss.1 in
-        record {
-          status_is = given.status;
-          out_is = ap (λ (x : Places). x.out) is ∙ sym (ap (λ (x : Places). x.out) none);
-          files_are = ap (λ (x : Places). x.files) is ∙ sym (ap (λ (x : Places). x.files) none);
-          writes_are = ap (λ (x : Places). x.counts.writes) is ∙ ap (λ (x : FileCounts). x.writes) miss.3 ∙ sym (ap (λ (x : Places). x.counts.writes) none);
-          err_is = given.line;
-        }
+          let is : q ≡ places out of files d = subst (λ (os : List Output). q ≡ written os (places out of files d)) miss.1 given.places in
+          let none : written reply.outputs (places out of files c) ≡ places out of files c = ap (λ (os : List Output). written os (places out of files c)) miss.1 in
+          record {
+            status_is = given.status;
+            out_is = ap (λ (x : Places). x.out) is ∙ sym (ap (λ (x : Places). x.out) none);
+            files_are = ap (λ (x : Places). x.files) is ∙ sym (ap (λ (x : Places). x.files) none);
+            writes_are = ap (λ (x : Places). x.counts.writes) is ∙ ap (λ (x : FileCounts). x.writes) miss.3 ∙ sym (ap (λ (x : Places). x.counts.writes) none);
+            err_is = given.line;
+          }
     ]
 
 -- the counts of reading didn't grow, unless the file was missed
@@ -91,9 +91,9 @@ reads_grew : (reply : Reply) (r : ℕ) (left : Option (List ℕ)) (i : ℕ) (out
 reads_grew reply r left i out of files c d q err later f g counts e h =
     elim counts [
       | inl same ↦
-        let reads : q.counts.read_faults ≡ c.read_faults = e.reads ∙ ap (λ (x : FileCounts). x.read_faults) same.1 in
-        let misses : q.counts.misses ≡ c.misses = e.misses ∙ ap (λ (x : FileCounts). x.misses) same.1 in
-        absurd (omega (arith, reads, misses, h))
+          let reads : q.counts.read_faults ≡ c.read_faults = e.reads ∙ ap (λ (x : FileCounts). x.read_faults) same.1 in
+          let misses : q.counts.misses ≡ c.misses = e.misses ∙ ap (λ (x : FileCounts). x.misses) same.1 in
+          absurd (omega (arith, reads, misses, h))
       | inr miss ↦ (miss.0, miss.1)
     ]
 
@@ -174,9 +174,9 @@ after_reply asked reply r left i out of files c d q err later f g h e =
       write_line = λ four. elim (e.line four) [ inl rose ↦ inl rose | inr said ↦ inr (said.0, said.1, rose_after reply out of files c d q h.counts said.2) ];
       refused = λ none. refused_places asked reply r out of files c d q err later f g h e none;
       refused_line = λ none quiet not_five.
-        let given = e.quiet quiet.err quiet.out (subst (λ (n : ℕ). q.counts.write_faults < raised n) (sym same_writes) quiet.writes) not_five in
-        let is = (h.refused none).0 in
-        (given.status ∙ ap (λ (x : Reply). x.status) is, given.line ∙ ap (λ (x : Reply). append_known err x.line) is);
+          let given = e.quiet quiet.err quiet.out (subst (λ (n : ℕ). q.counts.write_faults < raised n) (sym same_writes) quiet.writes) not_five in
+          let is = (h.refused none).0 in
+          (given.status ∙ ap (λ (x : Reply). x.status) is, given.line ∙ ap (λ (x : Reply). append_known err x.line) is);
     }
 
 -- a run whose words gave a reply
@@ -230,7 +230,7 @@ read_failed path line r c d err later f g is rose counts says =
       line = λ e. elim says [
         | inl said ↦ (path, refl, said.1 ∙ ap (append_known err) is, rose)
         | inr other ↦ elim other [ inl failed ↦ absurd (omega (arith, e, failed.0)) | inr spent ↦ absurd (omega (arith, e, spent.0)) ]
-        ];
+      ];
       writes = ap (λ (x : FileCounts). x.writes) counts;
       write_faults = ap (λ (x : FileCounts). x.write_faults) counts;
       refused = λ e. absurd cc;

@@ -1,7 +1,7 @@
 use Rattle.std.specs.Prelude.{map, string_bytes}
 use Rattle.ifs_top.specs.Command.{library_path}
 use Rattle.ifs_top.proofs.Sentences.{replied, stopped_run}
-use Rattle.ifs_top.proofs.run.run.Goals as goal
+use Rattle.ifs_top.proofs.top.run.Goals as goal
 
 pub returns-in-Ok : goal.returns-in-Ok
 returns-in-Ok g c =
