@@ -1,2 +1,3 @@
 pub mod Ends
 pub mod Sentences
+pub mod WordCount

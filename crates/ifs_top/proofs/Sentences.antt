@@ -11,6 +11,7 @@ use Rattle.ifs_top.specs.declared.reply.Output.{Output}
 use Rattle.ifs_top.specs.declared.reply.Reply.{Reply}
 use Rattle.ifs_top.specs.declared.stub.Stop.{Stop}
 use Rattle.ifs_top.specs.declared.stub.Stop.TheVariants as stops
+use Rattle.ifs_top.specs.Command.{Asked}
 use Rattle.ifs_top.specs.Outcome.{outcome, after_reading, refused_words}
 use Rattle.ifs_top.specs.Outside.{Places, Outside, Keeps, StopsWithin, PlaceRose, places, written}
 use Rattle.ifs_top.specs.Reply.{fault_line}
@@ -19,13 +20,13 @@ use Rattle.ifs_top.specs.Steps.{Says, Delivers, Decides, DecidesFor, DecideCount
 use Rattle.ifs_top.proofs.Ends.{Ends, Given, ends, keeps_stops}
 
 -- the line of a miss, for what the words ask for
-abbrev Misses : Option (List ℕ) → Reply → Option FileMap → Type 0
-Misses asked reply files = reply.status ≡ 3 → (path : List ℕ) × (asked ≡ Some path)
-    × (((reply.line ≡ fault_line path (codes "missing")) × IfSome files (λ held. reading MOST_FILE_BYTES (held path) ≡ Err Missing))
-    ⊎ ((reply.line ≡ fault_line path (codes "too large")) × IfSome files (λ held. reading MOST_FILE_BYTES (held path) ≡ Err TooLarge)))
+abbrev Misses : Option Asked → Reply → Option FileMap → Type 0
+Misses asked reply files = reply.status ≡ 3 → (what : Asked) × (asked ≡ Some what)
+    × (((reply.line ≡ fault_line what.path (codes "missing")) × IfSome files (λ held. reading MOST_FILE_BYTES (held what.path) ≡ Err Missing))
+    ⊎ ((reply.line ≡ fault_line what.path (codes "too large")) × IfSome files (λ held. reading MOST_FILE_BYTES (held what.path) ≡ Err TooLarge)))
 
 -- a reply was found
-record Decided (asked : Option (List ℕ)) (reply : Reply) (files : Option FileMap) (c d : FileCounts) : Type 0 where
+record Decided (asked : Option Asked) (reply : Reply) (files : Option FileMap) (c d : FileCounts) : Type 0 where
   reply_is : IfSome files (λ held. reply ≡ outcome asked held)
   counts : DecideCounts (Ok reply) c d
   miss : Misses asked reply files
@@ -35,7 +36,7 @@ told_same : (files : Option FileMap) (reply : Reply) → reply ≡ refused_words
 told_same None reply e = tt
 told_same (Some held) reply e = e
 
-decided : (asked : Option (List ℕ)) (reply : Reply) (files : Option FileMap) (c d : FileCounts) → Decides asked (Ok reply) files c d → Decided asked reply files c d
+decided : (asked : Option Asked) (reply : Reply) (files : Option FileMap) (c d : FileCounts) → Decides asked (Ok reply) files c d → Decided asked reply files c d
 decided None reply files c d h =
     let is : reply ≡ refused_words = elim h.0 [ inl ok ↦ cc | inr memory ↦ absurd cc ] in
     record {
@@ -61,7 +62,7 @@ old_stops reply out of files c d q counts h =
           keeps_stops reply.outputs (places out of files c) q none
     ]
 
-told : (P : Reply → Type 0) (asked : Option (List ℕ)) (reply : Reply) (files : Option FileMap) → IfSome files (λ held. reply ≡ outcome asked held) → P reply → IfSome files (λ held. P (outcome asked held))
+told : (P : Reply → Type 0) (asked : Option Asked) (reply : Reply) (files : Option FileMap) → IfSome files (λ held. reply ≡ outcome asked held) → P reply → IfSome files (λ held. P (outcome asked held))
 told P asked reply None is h = tt
 told P asked reply (Some held) is h = subst P is h
 
@@ -118,9 +119,9 @@ rose_after reply out of files c d q counts h =
 counts_at_most : (reply : Reply) (c d : FileCounts) → DecideCounts (Ok reply) c d → reply.status ≤ 3
 counts_at_most reply c d counts = elim counts [ inl same ↦ omega (arith, same.0) | inr miss ↦ omega (arith, miss.0) ]
 
-says_miss : (asked : Option (List ℕ)) (reply : Reply) (r : ℕ) (left : Option (List ℕ)) (i : ℕ) (out : Option (List ℕ)) (of : ℕ) (files : Option FileMap) (c d : FileCounts) (q : Places) (err later : Option (List ℕ)) (f g : ℕ)
+says_miss : (asked : Option Asked) (reply : Reply) (r : ℕ) (left : Option (List ℕ)) (i : ℕ) (out : Option (List ℕ)) (of : ℕ) (files : Option FileMap) (c d : FileCounts) (q : Places) (err later : Option (List ℕ)) (f g : ℕ)
     → Decided asked reply files c d → Ends reply r (places out of files d) q err later f g → r ≡ 3
-    → (path : List ℕ) × (asked ≡ Some path) × SaysUnread path (outside left i out of files c err f) (record { left = left; input_faults = i; places = q; err = later; err_faults = g })
+    → (what : Asked) × (asked ≡ Some what) × SaysUnread what.path (outside left i out of files c err f) (record { left = left; input_faults = i; places = q; err = later; err_faults = g })
 says_miss asked reply r left i out of files c d q err later f g h e three =
     let given = e.low (omega (arith, three)) in
     let status : reply.status ≡ 3 = sym given.status ∙ three in
@@ -128,7 +129,7 @@ says_miss asked reply r left i out of files c d q err later f g h e three =
     let rose : Rose c.misses q.counts.misses = elim h.counts [ inl same ↦ absurd (omega (arith, same.0, status)) | inr miss ↦ subst (λ (n : ℕ). Rose c.misses n) (sym e.misses) miss.2 ] in
     (missed.0, missed.1, elim missed.2 [ inl missing ↦ inl (given.line ∙ ap (append_known err) missing.0, rose, missing.1) | inr large ↦ inr (inl (given.line ∙ ap (append_known err) large.0, rose, large.1)) ])
 
-three_rose : (old new : Outside) {asked : Option (List ℕ)} → ((path : List ℕ) × (asked ≡ Some path) × SaysUnread path old new) → ReadRose old new
+three_rose : (old new : Outside) {asked : Option Asked} → ((what : Asked) × (asked ≡ Some what) × SaysUnread what.path old new) → ReadRose old new
 three_rose old new said =
     elim said.2 [
       | inl missing ↦ inr (inr missing.1)
@@ -141,7 +142,7 @@ missed_outputs reply r out of files c d q err later f g counts e three =
     let given = e.low (omega (arith, three)) in
     elim counts [ inl same ↦ absurd (omega (arith, same.0, three, given.status)) | inr miss ↦ miss.1 ]
 
-refused_places : (asked : Option (List ℕ)) (reply : Reply) (r : ℕ) (out : Option (List ℕ)) (of : ℕ) (files : Option FileMap) (c d : FileCounts) (q : Places) (err later : Option (List ℕ)) (f g : ℕ)
+refused_places : (asked : Option Asked) (reply : Reply) (r : ℕ) (out : Option (List ℕ)) (of : ℕ) (files : Option FileMap) (c d : FileCounts) (q : Places) (err later : Option (List ℕ)) (f g : ℕ)
     → Decided asked reply files c d → Ends reply r (places out of files d) q err later f g → asked ≡ None → q ≡ places out of files c
 refused_places asked reply r out of files c d q err later f g h e none =
     let is = h.refused none in
@@ -149,7 +150,7 @@ refused_places asked reply r out of files c d q err later f g h e none =
     e.none (ap length outputs) ∙ ap (λ (os : List Output). written os (places out of files d)) outputs ∙ ap (places out of files) is.1
 
 -- a reply that was found and delivered
-after_reply : (asked : Option (List ℕ)) (reply : Reply) (r : ℕ) (left : Option (List ℕ)) (i : ℕ) (out : Option (List ℕ)) (of : ℕ) (files : Option FileMap) (c d : FileCounts) (q : Places) (err later : Option (List ℕ)) (f g : ℕ)
+after_reply : (asked : Option Asked) (reply : Reply) (r : ℕ) (left : Option (List ℕ)) (i : ℕ) (out : Option (List ℕ)) (of : ℕ) (files : Option FileMap) (c d : FileCounts) (q : Places) (err later : Option (List ℕ)) (f g : ℕ)
     → Decided asked reply files c d → Ends reply r (places out of files d) q err later f g
     → Runs asked r (outside left i out of files c err f) (record { left = left; input_faults = i; places = q; err = later; err_faults = g })
 after_reply asked reply r left i out of files c d q err later f g h e =
@@ -180,7 +181,7 @@ after_reply asked reply r left i out of files c d q err later f g h e =
     }
 
 -- a run whose words gave a reply
-pub replied : (asked : Option (List ℕ)) (reply : Reply) (r : ℕ) (left : Option (List ℕ)) (i : ℕ) (out : Option (List ℕ)) (of : ℕ) (files later_files : Option FileMap) (c d : FileCounts) (q : Places) (err later : Option (List ℕ)) (f g : ℕ)
+pub replied : (asked : Option Asked) (reply : Reply) (r : ℕ) (left : Option (List ℕ)) (i : ℕ) (out : Option (List ℕ)) (of : ℕ) (files later_files : Option FileMap) (c d : FileCounts) (q : Places) (err later : Option (List ℕ)) (f g : ℕ)
     → Decides asked (Ok reply) files c d → later_files ≡ files → Delivers reply r (places out of later_files d) q err later f g
     → Runs asked r (outside left i out of files c err f) (record { left = left; input_faults = i; places = q; err = later; err_faults = g })
 replied asked reply r left i out of files later_files c d q err later f g decides keeps delivers =
@@ -189,13 +190,13 @@ replied asked reply r left i out of files later_files c d q err later f g decide
     after_reply asked reply r left i out of files c d q err later f g h (ends reply r (places out of files d) q err later f g (counts_at_most reply c d h.counts) at)
 
 -- why a run ended before it knew what to answer
-record Halted (asked : Option (List ℕ)) (r : ℕ) (c d : FileCounts) (err later : Option (List ℕ)) (f g : ℕ) : Type 0 where
+record Halted (asked : Option Asked) (r : ℕ) (c d : FileCounts) (err later : Option (List ℕ)) (f g : ℕ) : Type 0 where
   least : 3 ≤ r
   most : r ≤ 5
   four : r ≡ 4 → Rose f g
   grew : f < g → 4 ≤ r
   loud : d.read_faults < raised c.read_faults → r ≢ 5 → ⊥
-  line : r ≡ 3 → (path : List ℕ) × (asked ≡ Some path) × (later ≡ append_known err (fault_line path (codes "read failed"))) × Rose c.read_faults d.read_faults
+  line : r ≡ 3 → (what : Asked) × (asked ≡ Some what) × (later ≡ append_known err (fault_line what.path (codes "read failed"))) × Rose c.read_faults d.read_faults
   writes : d.writes ≡ c.writes
   write_faults : d.write_faults ≡ c.write_faults
   refused : asked ≡ None → d ≡ c
@@ -203,7 +204,7 @@ record Halted (asked : Option (List ℕ)) (r : ℕ) (c d : FileCounts) (err late
 five_at_memory : (r : ℕ) (err later : Option (List ℕ)) (f g : ℕ) → Says memory_line 5 r err later f g → r ≡ 5
 five_at_memory r err later f g says = elim says [ inl said ↦ said.0 | inr other ↦ elim other [ inl failed ↦ omega (arith, failed.0) | inr spent ↦ spent.0 ] ]
 
-no_memory : (asked : Option (List ℕ)) (r : ℕ) (c d : FileCounts) (err later : Option (List ℕ)) (f g : ℕ) → d.writes ≡ c.writes → d.write_faults ≡ c.write_faults → (asked ≡ None → d ≡ c) → Says memory_line 5 r err later f g → Halted asked r c d err later f g
+no_memory : (asked : Option Asked) (r : ℕ) (c d : FileCounts) (err later : Option (List ℕ)) (f g : ℕ) → d.writes ≡ c.writes → d.write_faults ≡ c.write_faults → (asked ≡ None → d ≡ c) → Says memory_line 5 r err later f g → Halted asked r c d err later f g
 no_memory asked r c d err later f g writes faults refused says =
     let five = five_at_memory r err later f g says in
     record {
@@ -218,8 +219,8 @@ no_memory asked r c d err later f g writes faults refused says =
       refused = refused;
     }
 
-read_failed : (path line : List ℕ) (r : ℕ) (c d : FileCounts) (err later : Option (List ℕ)) (f g : ℕ) → line ≡ fault_line path (codes "read failed") → Rose c.read_faults d.read_faults → d ≡ record c { read_faults = d.read_faults } → Says line 3 r err later f g → Halted (Some path) r c d err later f g
-read_failed path line r c d err later f g is rose counts says =
+read_failed : (what : Asked) (line : List ℕ) (r : ℕ) (c d : FileCounts) (err later : Option (List ℕ)) (f g : ℕ) → line ≡ fault_line what.path (codes "read failed") → Rose c.read_faults d.read_faults → d ≡ record c { read_faults = d.read_faults } → Says line 3 r err later f g → Halted (Some what) r c d err later f g
+read_failed what line r c d err later f g is rose counts says =
     let bounds : (3 ≤ r) × (r ≤ 5) = elim says [ inl said ↦ (omega (arith, said.0), omega (arith, said.0)) | inr other ↦ elim other [ inl failed ↦ (omega (arith, failed.0), omega (arith, failed.0)) | inr spent ↦ (omega (arith, spent.0), omega (arith, spent.0)) ] ] in
     record {
       least = bounds.0;
@@ -228,7 +229,7 @@ read_failed path line r c d err later f g is rose counts says =
       grew = λ h. elim says [ inl said ↦ absurd (omega (arith, h, said.2)) | inr other ↦ elim other [ inl failed ↦ omega (arith, failed.0) | inr spent ↦ omega (arith, spent.0) ] ];
       loud = λ h _. omega (arith, h, rose);
       line = λ e. elim says [
-        | inl said ↦ (path, refl, said.1 ∙ ap (append_known err) is, rose)
+        | inl said ↦ (what, refl, said.1 ∙ ap (append_known err) is, rose)
         | inr other ↦ elim other [ inl failed ↦ absurd (omega (arith, e, failed.0)) | inr spent ↦ absurd (omega (arith, e, spent.0)) ]
       ];
       writes = ap (λ (x : FileCounts). x.writes) counts;
@@ -236,7 +237,7 @@ read_failed path line r c d err later f g is rose counts says =
       refused = λ e. absurd cc;
     }
 
-halted : (asked : Option (List ℕ)) (stop : Stop) (r : ℕ) (files : Option FileMap) (c d : FileCounts) (err later : Option (List ℕ)) (f g : ℕ) → Decides asked (Err stop) files c d → StopSays stop r err later f g → Halted asked r c d err later f g
+halted : (asked : Option Asked) (stop : Stop) (r : ℕ) (files : Option FileMap) (c d : FileCounts) (err later : Option (List ℕ)) (f g : ℕ) → Decides asked (Err stop) files c d → StopSays stop r err later f g → Halted asked r c d err later f g
 halted None (stops.Unread line) r files c d err later f g h says = absurd (elim h.0 [ inl ok ↦ cc | inr memory ↦ cc ])
 halted None stops.Memory r files c d err later f g h says =
     no_memory None r c d err later f g (ap (λ (x : FileCounts). x.writes) h.1) (ap (λ (x : FileCounts). x.write_faults) h.1) (λ _. h.1) says
@@ -244,12 +245,12 @@ halted (Some path) (stops.Unread line) r files c d err later f g h says = read_f
 halted (Some path) stops.Memory r files c d err later f g h says =
     no_memory (Some path) r c d err later f g (ap (λ (x : FileCounts). x.writes) h.counts) (ap (λ (x : FileCounts). x.write_faults) h.counts) (λ e. absurd cc) says
 
-all_told : (asked : Option (List ℕ)) (files : Option FileMap) (P : Reply → Type 0) → ((reply : Reply) → P reply) → IfSome files (λ held. P (outcome asked held))
+all_told : (asked : Option Asked) (files : Option FileMap) (P : Reply → Type 0) → ((reply : Reply) → P reply) → IfSome files (λ held. P (outcome asked held))
 all_told asked None P h = tt
 all_told asked (Some held) P h = h (outcome asked held)
 
 -- a run that ended before it knew what to answer
-pub stopped_run : (asked : Option (List ℕ)) (stop : Stop) (r : ℕ) (left : Option (List ℕ)) (i : ℕ) (out : Option (List ℕ)) (of : ℕ) (files later_files : Option FileMap) (c d : FileCounts) (err later : Option (List ℕ)) (f g : ℕ)
+pub stopped_run : (asked : Option Asked) (stop : Stop) (r : ℕ) (left : Option (List ℕ)) (i : ℕ) (out : Option (List ℕ)) (of : ℕ) (files later_files : Option FileMap) (c d : FileCounts) (err later : Option (List ℕ)) (f g : ℕ)
     → Decides asked (Err stop) files c d → later_files ≡ files → StopSays stop r err later f g
     → Runs asked r (outside left i out of files c err f) (outside left i out of later_files d later g)
 stopped_run asked stop r left i out of files later_files c d err later f g decides keeps says =

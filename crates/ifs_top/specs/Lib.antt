@@ -1,4 +1,5 @@
 pub mod Command
+pub mod Request
 pub mod Reply
 pub mod Outcome
 pub mod Outside

@@ -7,6 +7,7 @@ use Rattle.ifs_outside.specs.declared.counts.FileCounts.{FileCounts}
 use Rattle.ifs_outside.specs.declared.cause.ReadCause.TheVariants.{Missing, TooLarge}
 use Rattle.ifs_top.specs.declared.limits.TheConstants.{MOST_FILE_BYTES}
 use Rattle.ifs_top.specs.declared.reply.Reply.{Reply}
+use Rattle.ifs_top.specs.Command.{Asked}
 use Rattle.ifs_top.specs.Outcome.{outcome}
 use Rattle.ifs_top.specs.Outside.{Places, Outside, Keeps, PlaceRose, StopsWithin, places, written}
 use Rattle.ifs_top.specs.Reply.{fault_line}
@@ -73,7 +74,7 @@ SaysUnwritten old new =
     (path : List ℕ) × (new.err ≡ append_known old.err (fault_line path (codes "write failed"))) × PlaceRose old.places new.places
 
 -- a run whose words ask for this ended with this status
-pub record Runs (asked : Option (List ℕ)) (status : ℕ) (old new : Outside) : Type 0 where
+pub record Runs (asked : Option Asked) (status : ℕ) (old new : Outside) : Type 0 where
   -- standard input is left unread
   pub left : new.left ≡ old.left
   pub input_faults : new.input_faults ≡ old.input_faults
@@ -95,7 +96,7 @@ pub record Runs (asked : Option (List ℕ)) (status : ℕ) (old new : Outside) :
   pub unread : status ≡ 3 → WritesNothing old new
   pub grew_unread : read_total old < read_total new → WritesNothing old new
   -- the line of a fault, with its cause
-  pub read_line : status ≡ 3 → (path : List ℕ) × (asked ≡ Some path) × SaysUnread path old new
+  pub read_line : status ≡ 3 → (what : Asked) × (asked ≡ Some what) × SaysUnread what.path old new
   pub write_line : status ≡ 4 → Rose old.err_faults new.err_faults ⊎ SaysUnwritten old new
   -- words that aren't understood: nothing is read or written but their line
   pub refused : asked ≡ None → new.places ≡ old.places

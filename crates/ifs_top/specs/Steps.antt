@@ -14,6 +14,7 @@ use Rattle.ifs_top.specs.declared.stub.Stop.{Stop}
 use Rattle.ifs_top.specs.declared.stub.Stop.TheVariants as stops
 use Rattle.ifs_top.specs.declared.deliver.Unwritten.{Unwritten}
 use Rattle.ifs_top.specs.Outside.{Places, Spoils, Keeps, StopsWithin, SameFaults, Faulted, Counted, after, written}
+use Rattle.ifs_top.specs.Command.{Asked}
 use Rattle.ifs_top.specs.Outcome.{after_reading, refused_words}
 use Rattle.ifs_top.specs.Reply.{fault_line}
 
@@ -69,14 +70,14 @@ abbrev pub StopSays : Stop → ℕ → Option (List ℕ) → Option (List ℕ) �
 StopSays (stops.Unread line) result err later faults later_faults = Says line 3 result err later faults later_faults
 StopSays stops.Memory result err later faults later_faults = Says memory_line 5 result err later faults later_faults
 
--- the answer for a path
-pub record DecidesFor (path : List ℕ) (result : Result Reply Stop) (files : Option FileMap) (old new : FileCounts) : Type 0 where
-  pub reply : IfOk result (λ reply. IfSome files (λ held. reply ≡ after_reading path (reading MOST_FILE_BYTES (held path))))
-  pub miss : IfOk result (λ reply. IsMiss path reply files)
-  pub line : IfErr result (IsUnread path)
+-- the answer to what the words ask for
+pub record DecidesFor (asked : Asked) (result : Result Reply Stop) (files : Option FileMap) (old new : FileCounts) : Type 0 where
+  pub reply : IfOk result (λ reply. IfSome files (λ held. reply ≡ after_reading asked (reading MOST_FILE_BYTES (held asked.path))))
+  pub miss : IfOk result (λ reply. IsMiss asked.path reply files)
+  pub line : IfErr result (IsUnread asked.path)
   pub counts : DecideCounts result old new
 
--- the answer for a path, where there is one
-abbrev pub Decides : Option (List ℕ) → Result Reply Stop → Option FileMap → FileCounts → FileCounts → Type 0
-Decides (Some path) result files old new = DecidesFor path result files old new
+-- the answer to what the words ask for, if they are understood
+abbrev pub Decides : Option Asked → Result Reply Stop → Option FileMap → FileCounts → FileCounts → Type 0
+Decides (Some asked) result files old new = DecidesFor asked result files old new
 Decides None result files old new = ((result ≡ Ok refused_words) ⊎ (result ≡ Err stops.Memory)) × (new ≡ old)

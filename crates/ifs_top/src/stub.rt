@@ -1,18 +1,22 @@
 //! The command `stub`: a library's interface as a text.
 
-ghost use Rattle.std.specs.Prelude.{◌≡◌, ◌<◌, IfOk, Result};
+ghost use Rattle.std.specs.Prelude.{◌≡◌, ◌<◌, ◌++◌, IfOk, OnOk, Result};
 ghost use Rattle.elf_dyn.specs.Library.{library_of};
 ghost use Rattle.ifs_interface.specs.Extracted.{interface_of};
-ghost use Rattle.ifs_text.specs.Printed.{printed_interface};
-ghost use Rattle.ifs_top.specs.Outcome.{printed_text, stub_of};
+ghost use Rattle.ifs_bytes.specs.Outcome.{UnlessMemory};
+ghost use Rattle.ifs_top.specs.Outcome.{by_library, output_at, stub_for, with_stub, written_text};
+ghost use Rattle.ifs_top.specs.Request.{asked};
+ghost use Rattle.std.specs.Option.{option_copied};
 ghost use Rattle.ifs_top.specs.Steps.{DecidesFor};
 
 use crate::limits::MOST_FILE_BYTES;
 use crate::reply::{Output, Reply, fault, fault_line};
+use crate::words::Request;
 use elf_dyn::{ElfCause, Library};
 use ifs_bytes::{List, Memory, Text};
+use ifs_interface::Interface;
 use ifs_outside::{Files, ReadCause};
-use ifs_stub::extract;
+use ifs_stub::{StubCause, emit_text, extract};
 use ifs_text::print;
 use std::alloc::Global;
 
@@ -36,25 +40,41 @@ impl From<Memory> for Stop {
     }
 }
 
-// The text of a library, which is let go before the text is made.
-fn text_of(alloc: Global, library: Library) -> Result<Text, Memory>
-    ensures { IfOk result (λ text. text ≡ printed_interface (interface_of library)) }
+// The interface of a library, which is let go.
+fn interface_of(alloc: Global, library: Library) -> Result<Interface, Memory>
+    ensures { IfOk result (λ interface. interface ≡ interface_of library) }
 {
-    let interface = extract(alloc, &library)?;
-    drop(library);
-    print(alloc, &interface)
+    extract(alloc, &library)
 }
 
-// The reply with a text on standard output.
-fn printed_text(alloc: Global, text: Text) -> Result<Reply, Memory>
-    ensures { IfOk result (λ reply. reply ≡ printed_text text) }
+// Appends an output, where there is a path for it.
+fn push_output(
+    outputs: &mut Vec<Output>,
+    alloc: Global,
+    path: Option<&[u8]>,
+    bytes: Text,
+) -> Result<(), Memory>
+    ensures { OnOk result (outputs.new.items ≡ outputs.old.items ++ output_at (option_copied path.entry) bytes) }
 {
-    let output = Output {
-        path: Text::from_slice(alloc, b"-")?,
-        bytes: text,
-    };
+    if let Some(path) = path {
+        let path = Text::from_slice(alloc, path)?;
+        outputs.push(Output { path, bytes })?;
+    }
+    Ok(())
+}
+
+// The reply with the text and the stub library of an interface, each where it is asked for.
+fn written_text(
+    alloc: Global,
+    request: Request<'_>,
+    interface: &Interface,
+    stub: Text,
+) -> Result<Reply, Memory>
+    ensures { IfOk result (λ reply. reply ≡ written_text (asked request.entry) interface.now stub) }
+{
     let mut outputs = Vec::new(alloc);
-    outputs.push(output)?;
+    push_output(&mut outputs, alloc, request.text, print(alloc, interface)?)?;
+    push_output(&mut outputs, alloc, request.stub, stub)?;
     Ok(Reply {
         outputs: List::from_vec(outputs),
         line: Text::new(alloc),
@@ -62,28 +82,52 @@ fn printed_text(alloc: Global, text: Text) -> Result<Reply, Memory>
     })
 }
 
-// The reply to the bytes of a file, which are let go before the text is made.
-fn stub_of(alloc: Global, path: &[u8], bytes: Vec<u8>) -> Result<Reply, Memory>
-    ensures reply { IfOk result (λ reply. reply ≡ stub_of path.now (library_of bytes.items)) }
+// The stub library, where it is asked for.
+fn stub_for(alloc: Global, path: Option<&[u8]>, interface: &Interface) -> Result<Text, StubCause>
+    ensures { UnlessMemory StubCause.Memory result (stub_for (option_copied path.entry) interface.now) }
+{
+    match path {
+        Some(_) => emit_text(alloc, interface),
+        None => Ok(Text::new(alloc)),
+    }
+}
+
+// The reply to an interface.
+fn with_stub(alloc: Global, request: Request<'_>, interface: &Interface) -> Result<Reply, Memory>
+    ensures reply { IfOk result (λ reply. reply ≡ with_stub (asked request.entry) interface.now (stub_for (option_copied request.entry.stub) interface.now)) }
+    ensures status { IfOk result (λ reply. reply.status < 3) }
+{
+    match stub_for(alloc, request.stub, interface) {
+        Ok(stub) => written_text(alloc, request, interface, stub),
+        Err(StubCause::Memory) => Err(Memory),
+        Err(cause) => fault(alloc, b"stub", cause.printed(alloc)?.as_bytes(), 1),
+    }
+}
+
+// The reply to the bytes of a file, which are let go before the interface is made.
+fn by_library(alloc: Global, request: Request<'_>, bytes: Vec<u8>) -> Result<Reply, Memory>
+    ensures reply { IfOk result (λ reply. reply ≡ by_library (asked request.entry) (library_of bytes.items)) }
     ensures status { IfOk result (λ reply. reply.status < 3) }
 {
     match Library::parse(alloc, &bytes) {
         Ok(library) => {
             drop(bytes);
-            printed_text(alloc, text_of(alloc, library)?)
+            let interface = interface_of(alloc, library)?;
+            with_stub(alloc, request, &interface)
         }
         Err(ElfCause::Memory) => Err(Memory),
-        Err(cause) => fault(alloc, path, cause.printed(alloc)?.as_bytes(), 1),
+        Err(cause) => fault(alloc, request.path, cause.printed(alloc)?.as_bytes(), 1),
     }
 }
 
-/// The reply to a library at a path.
-pub fn stub<F: Files>(alloc: Global, path: &[u8], files: &mut F) -> Result<Reply, Stop>
-    ensures answers { DecidesFor path.now result (F.map files.old) (F.counts files.old) (F.counts files.new) }
+/// The reply to what the words ask for.
+pub fn stub<F: Files>(alloc: Global, request: Request<'_>, files: &mut F) -> Result<Reply, Stop>
+    ensures answers { DecidesFor (asked request.entry) result (F.map files.old) (F.counts files.old) (F.counts files.new) }
     ensures keeps { F.map files.new ≡ F.map files.old }
 {
+    let path = request.path;
     match files.read(alloc, path, MOST_FILE_BYTES) {
-        Ok(bytes) => Ok(stub_of(alloc, path, bytes)?),
+        Ok(bytes) => Ok(by_library(alloc, request, bytes)?),
         Err(ReadCause::Missing) => Ok(fault(alloc, path, b"missing", 3)?),
         Err(ReadCause::TooLarge) => Ok(fault(alloc, path, b"too large", 3)?),
         Err(ReadCause::Failed) => Err(Stop::Unread(fault_line(alloc, path, b"read failed")?)),
