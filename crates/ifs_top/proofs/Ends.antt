@@ -6,7 +6,7 @@ use Rattle.ifs_outside.specs.Count.{raised, Rose}
 use Rattle.ifs_top.specs.declared.reply.Output.{Output}
 use Rattle.ifs_top.specs.declared.reply.Reply.{Reply}
 use Rattle.ifs_top.specs.Outside.{Places, Keeps, StopsWithin, PlaceRose, SameFaults, Faulted, after, written}
-use Rattle.ifs_top.specs.Reply.{fault_line, is_printed}
+use Rattle.ifs_top.specs.Reply.{fault_line, is_printed, Names, HasOutputs}
 use Rattle.ifs_top.specs.Steps.{Says, Delivers, memory_line}
 
 pub keeps_stops : (outputs : List Output) (p q : Places) → Keeps p q → StopsWithin outputs p q
@@ -61,7 +61,7 @@ pub record Ends (reply : Reply) (r : ℕ) (p q : Places) (err later : Option (Li
   pub grew : total p f < total q g → 4 ≤ r
   pub low : r < 4 → Given reply r p q err later
   pub quiet : g < raised f → q.out_faults < raised p.out_faults → q.counts.write_faults < raised p.counts.write_faults → r ≢ 5 → Given reply r p q err later
-  pub line : r ≡ 4 → Rose f g ⊎ ((path : List ℕ) × (later ≡ append_known err (fault_line path (codes "write failed"))) × PlaceRose p q)
+  pub line : r ≡ 4 → Rose f g ⊎ ((path : List ℕ) × Names reply.outputs path × (later ≡ append_known err (fault_line path (codes "write failed"))) × PlaceRose p q)
 
 -- all outputs were written
 whole : (reply : Reply) (r : ℕ) (p q : Places) (err later : Option (List ℕ)) (f g : ℕ) → reply.status ≤ 3 → q ≡ written reply.outputs p → Says reply.line reply.status r err later f g → Ends reply r p q err later f g
@@ -112,9 +112,14 @@ whole reply r p q err later f g three is says =
       ]
     ]
 
+some_output : (outputs : List Output) (path : List ℕ) → Names outputs path → HasOutputs outputs
+some_output [] path named = absurd cc
+some_output (output ∷ outputs) path named = omega arith
+
 -- an output failed
-spoilt : (reply : Reply) (r : ℕ) (p q : Places) (err later : Option (List ℕ)) (f g : ℕ) (path : List ℕ) → reply.status ≤ 3 → 0 < length reply.outputs → StopsWithin reply.outputs p q → Faulted p q → Says (fault_line path (codes "write failed")) 4 r err later f g → Ends reply r p q err later f g
-spoilt reply r p q err later f g path three some stops faulted says =
+spoilt : (reply : Reply) (r : ℕ) (p q : Places) (err later : Option (List ℕ)) (f g : ℕ) (path : List ℕ) → reply.status ≤ 3 → Names reply.outputs path → StopsWithin reply.outputs p q → Faulted p q → Says (fault_line path (codes "write failed")) 4 r err later f g → Ends reply r p q err later f g
+spoilt reply r p q err later f g path three named stops faulted says =
+    let some = some_output reply.outputs path named in
     let four_or_five : (4 ≤ r) × (r ≤ 5) = elim says [ inl said ↦ (omega (arith, said.0), omega (arith, said.0)) | inr other ↦ elim other [ inl failed ↦ (omega (arith, failed.0), omega (arith, failed.0)) | inr spent ↦ (omega (arith, spent.0), omega (arith, spent.0)) ] ] in
     record {
       stops = stops;
@@ -127,7 +132,7 @@ spoilt reply r p q err later f g path three some stops faulted says =
       grew = λ _. four_or_five.0;
       low = λ h. absurd (omega (arith, h, four_or_five.0));
       quiet = λ _ out files _. absurd (elim faulted.rose [ inl rose ↦ omega (arith, out, rose) | inr rose ↦ omega (arith, files, rose) ]);
-      line = λ e. elim says [ inl said ↦ inr (path, said.1, faulted.rose) | inr other ↦ elim other [ inl failed ↦ inl failed.1 | inr spent ↦ absurd (omega (arith, e, spent.0)) ] ];
+      line = λ e. elim says [ inl said ↦ inr (path, named, said.1, faulted.rose) | inr other ↦ elim other [ inl failed ↦ inl failed.1 | inr spent ↦ absurd (omega (arith, e, spent.0)) ] ];
     }
 
 -- memory ran out

@@ -14,7 +14,7 @@ use Rattle.ifs_top.specs.declared.stub.Stop.TheVariants as stops
 use Rattle.ifs_top.specs.Command.{Asked}
 use Rattle.ifs_top.specs.Outcome.{outcome, after_reading, refused_words}
 use Rattle.ifs_top.specs.Outside.{Places, Outside, Keeps, StopsWithin, PlaceRose, places, written}
-use Rattle.ifs_top.specs.Reply.{fault_line}
+use Rattle.ifs_top.specs.Reply.{fault_line, Names}
 use Rattle.ifs_top.specs.Runs.{Runs, Gives, WritesNothing, SaysUnread, SaysUnwritten, ReadRose, WriteRose, NoFault, read_total, write_total, outside}
 use Rattle.ifs_top.specs.Steps.{Says, Delivers, Decides, DecidesFor, DecideCounts, IsMiss, StopSays, memory_line}
 use Rattle.ifs_top.proofs.Ends.{Ends, Given, ends, keeps_stops}
@@ -172,7 +172,7 @@ after_reply asked reply r left i out of files c d q err later f g h e =
       unread = λ three. writes_nothing reply r left i out of files c d q err later f g h.counts (missed_outputs reply r out of files c d q err later f g h.counts e three) e;
       grew_unread = λ grew. let miss = reads_grew reply r left i out of files c d q err later f g h.counts e grew in writes_nothing reply r left i out of files c d q err later f g h.counts miss.1 e;
       read_line = λ three. says_miss asked reply r left i out of files c d q err later f g h e three;
-      write_line = λ four. elim (e.line four) [ inl rose ↦ inl rose | inr said ↦ inr (said.0, said.1, rose_after reply out of files c d q h.counts said.2) ];
+      write_line = λ four. elim (e.line four) [ inl rose ↦ inl rose | inr said ↦ inr (said.0, told (λ (x : Reply). Names x.outputs said.0) asked reply files h.reply_is said.1, said.2, rose_after reply out of files c d q h.counts said.3) ];
       refused = λ none. refused_places asked reply r out of files c d q err later f g h e none;
       refused_line = λ none quiet not_five.
           let given = e.quiet quiet.err quiet.out (subst (λ (n : ℕ). q.counts.write_faults < raised n) (sym same_writes) quiet.writes) not_five in

@@ -10,7 +10,7 @@ use Rattle.ifs_top.specs.declared.reply.Reply.{Reply}
 use Rattle.ifs_top.specs.Command.{Asked}
 use Rattle.ifs_top.specs.Outcome.{outcome}
 use Rattle.ifs_top.specs.Outside.{Places, Outside, Keeps, PlaceRose, StopsWithin, places, written}
-use Rattle.ifs_top.specs.Reply.{fault_line}
+use Rattle.ifs_top.specs.Reply.{fault_line, Names}
 
 abbrev pub outside : Option (List ℕ) → ℕ → Option (List ℕ) → ℕ → Option FileMap → FileCounts → Option (List ℕ) → ℕ → Outside
 outside left input_faults out out_faults files counts err err_faults = record {
@@ -68,10 +68,10 @@ SaysUnread path old new =
     × IfSome old.places.files (λ files. reading MOST_FILE_BYTES (files path) ≡ Err TooLarge))
     ⊎ ((new.err ≡ append_known old.err (fault_line path (codes "read failed"))) × Rose old.places.counts.read_faults new.places.counts.read_faults))
 
--- the line says of a path that writing it failed
-abbrev pub SaysUnwritten : Outside → Outside → Type 0
-SaysUnwritten old new =
-    (path : List ℕ) × (new.err ≡ append_known old.err (fault_line path (codes "write failed"))) × PlaceRose old.places new.places
+-- the line says of the path of an output that writing it failed
+abbrev pub SaysUnwritten : Option Asked → Outside → Outside → Type 0
+SaysUnwritten asked old new =
+    (path : List ℕ) × IfSome old.places.files (λ files. Names (outcome asked files).outputs path) × (new.err ≡ append_known old.err (fault_line path (codes "write failed"))) × PlaceRose old.places new.places
 
 -- a run whose words ask for this ended with this status
 pub record Runs (asked : Option Asked) (status : ℕ) (old new : Outside) : Type 0 where
@@ -97,7 +97,7 @@ pub record Runs (asked : Option Asked) (status : ℕ) (old new : Outside) : Type
   pub grew_unread : read_total old < read_total new → WritesNothing old new
   -- the line of a fault, with its cause
   pub read_line : status ≡ 3 → (what : Asked) × (asked ≡ Some what) × SaysUnread what.path old new
-  pub write_line : status ≡ 4 → Rose old.err_faults new.err_faults ⊎ SaysUnwritten old new
+  pub write_line : status ≡ 4 → Rose old.err_faults new.err_faults ⊎ SaysUnwritten asked old new
   -- words that aren't understood: nothing is read or written but their line
   pub refused : asked ≡ None → new.places ≡ old.places
   pub refused_line : asked ≡ None → NoFault old new → status ≢ 5

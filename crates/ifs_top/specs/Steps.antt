@@ -16,7 +16,7 @@ use Rattle.ifs_top.specs.declared.deliver.Unwritten.{Unwritten}
 use Rattle.ifs_top.specs.Outside.{Places, Spoils, Keeps, StopsWithin, SameFaults, Faulted, Counted, after, written}
 use Rattle.ifs_top.specs.Command.{Asked}
 use Rattle.ifs_top.specs.Outcome.{after_reading, refused_words}
-use Rattle.ifs_top.specs.Reply.{fault_line}
+use Rattle.ifs_top.specs.Reply.{fault_line, Names, HasOutputs}
 
 -- a reply of status 3 comes with a miss and any other with no change, a fault with its count; where memory
 -- runs out only counts of reading changed
@@ -36,10 +36,10 @@ abbrev pub WritesOne : {T : Type 0} → Result T WriteCause → Output → Place
 WritesOne (Ok _) output old new = new ≡ after output old
 WritesOne (Err cause) output old new = (Keeps old new ⊎ Spoils output old new) × Counted cause old new
 
--- the outputs were written, or some of them
+-- the outputs were written, or some of them; the path is that of the first that wasn't written whole
 abbrev pub WritesAll : {T : Type 0} → Result T Unwritten → List Output → Places → Places → Type 0
 WritesAll (Ok _) outputs old new = new ≡ written outputs old
-WritesAll (Err unwritten) outputs old new = (0 < length outputs) × StopsWithin outputs old new × Counted unwritten.cause old new
+WritesAll (Err unwritten) outputs old new = Names outputs unwritten.path.now × StopsWithin outputs old new × Counted unwritten.cause old new
 
 -- a line was written on standard error, whose faults were counted, and the status is the greatest of what
 -- occurred
@@ -56,8 +56,8 @@ memory_line = codes "error: memory" ++ 10 ∷ []
 abbrev pub Delivers : Reply → ℕ → Places → Places → Option (List ℕ) → Option (List ℕ) → ℕ → ℕ → Type 0
 Delivers reply result old new err later faults later_faults =
     ((new ≡ written reply.outputs old) × Says reply.line reply.status result err later faults later_faults)
-    ⊎ (((path : List ℕ) × (0 < length reply.outputs) × StopsWithin reply.outputs old new × Faulted old new × Says (fault_line path (codes "write failed")) 4 result err later faults later_faults)
-    ⊎ ((0 < length reply.outputs) × StopsWithin reply.outputs old new × (Faulted old new ⊎ SameFaults old new) × Says memory_line 5 result err later faults later_faults))
+    ⊎ (((path : List ℕ) × Names reply.outputs path × StopsWithin reply.outputs old new × Faulted old new × Says (fault_line path (codes "write failed")) 4 result err later faults later_faults)
+    ⊎ (HasOutputs reply.outputs × StopsWithin reply.outputs old new × (Faulted old new ⊎ SameFaults old new) × Says memory_line 5 result err later faults later_faults))
 
 -- the line of a miss says which
 abbrev pub IsMiss : List ℕ → Reply → Option FileMap → Type 0
