@@ -9,8 +9,8 @@ mod cases;
 mod fixtures;
 
 use cases::{
-    BY_ADDRESS, CUT, Damage, GNU_DAMAGE, GNU_NAMES, LOADED_ROWS, NAMES, Names, QUIRKS_ROWS,
-    SECTION_DAMAGE, SEGMENT_DAMAGE, STUB_ROWS, SeenRow,
+    BY_ADDRESS, CUT, CUT_BARE, Cut, Damage, GNU_32_NAMES, GNU_DAMAGE, GNU_NAMES, LOADED_ROWS,
+    NAMES, Names, QUIRKS_ROWS, SECTION_DAMAGE, SEGMENT_DAMAGE, STUB_ROWS, SeenRow,
 };
 use fixtures::{FOO, GNU, PPC_STUB, QUIRKS, STUB};
 
@@ -57,23 +57,40 @@ fn bare_ppc_stub(alloc: Global) -> Result<Vec<u8>, Memory> {
     Ok(file)
 }
 
-// What a library's names are: the soname and a colon, then each row behind a blank and each needed library
-// behind ` <`.
-fn names_of(alloc: Global, file: &[u8]) -> Result<Text, ElfCause> {
-    let library = Library::parse(alloc, file)?;
-    let mut names = Text::new(alloc);
+// Appends a blank and the name of each row.
+fn append_rows(names: &mut Text, rows: &[DynRow]) -> Result<(), Memory> {
+    for row in rows {
+        names.append(b" ")?;
+        names.append(row.name.as_bytes())?;
+    }
+    Ok(())
+}
+
+// Appends ` <` and each name.
+fn append_needed(names: &mut Text, needed: &[Text]) -> Result<(), Memory> {
+    for name in needed {
+        names.append(b" <")?;
+        names.append(name.as_bytes())?;
+    }
+    Ok(())
+}
+
+// A library's names: the soname and a colon, then those of its rows and of the libraries that it needs.
+fn append_names(names: &mut Text, library: &Library) -> Result<(), Memory> {
     if let Some(soname) = library.soname_text() {
         names.append(soname.as_bytes())?;
     }
     names.append(b":")?;
-    for row in library.rows() {
-        names.append(b" ")?;
-        names.append(row.name.as_bytes())?;
-    }
-    for needed in library.needed_texts() {
-        names.append(b" <")?;
-        names.append(needed.as_bytes())?;
-    }
+    append_rows(names, library.rows())?;
+    append_needed(names, library.needed_texts())
+}
+
+// The names of the library in a file, with these bytes from `at` on.
+fn names_of(alloc: Global, file: &[u8], at: usize, bytes: &[u8]) -> Result<Text, ElfCause> {
+    let copy = patched(alloc, file, at, bytes)?;
+    let library = Library::parse(alloc, &copy)?;
+    let mut names = Text::new(alloc);
+    append_names(&mut names, &library)?;
     Ok(names)
 }
 
@@ -106,32 +123,43 @@ fn rows_are_read(rt: HostRuntime) -> Result<(), Fail> {
     has_rows(&rt, &FOO, &LOADED_ROWS)?;
     has_rows(&rt, &GNU, &LOADED_ROWS)?;
     has_rows(&rt, &STUB, &STUB_ROWS)?;
-    has_rows(&rt, &bare_stub(rt.alloc())?, &STUB_ROWS)?;
     has_rows(&rt, &PPC_STUB, &STUB_ROWS)?;
-    has_rows(&rt, &bare_ppc_stub(rt.alloc())?, &STUB_ROWS)?;
     has_rows(&rt, &QUIRKS, &QUIRKS_ROWS)?;
     Ok(())
 }
 
-// Whether a library is for this machine, order and width, and defines versions.
-fn is_for(library: &Library, machine: u16, order: Order, width: Width, versioned: bool) -> bool {
-    library.machine_number() == machine
-        && library.order() == order
-        && library.width() == width
-        && library.is_versioned() == versioned
+#[test]
+fn rows_are_read_without_sections(rt: HostRuntime) -> Result<(), Fail> {
+    has_rows(&rt, &bare_stub(rt.alloc())?, &STUB_ROWS)?;
+    has_rows(&rt, &bare_ppc_stub(rt.alloc())?, &STUB_ROWS)?;
+    Ok(())
+}
+
+// Whether a file's library is for this machine, order and width.
+fn is_for(
+    alloc: Global,
+    file: &[u8],
+    machine: u16,
+    order: Order,
+    width: Width,
+) -> Result<bool, ElfCause> {
+    let library = Library::parse(alloc, file)?;
+    Ok(library.machine_number() == machine && library.order() == order && library.width() == width)
 }
 
 #[test]
-fn other_fields_are_read(rt: HostRuntime) -> Result<(), Fail> {
-    let alloc = rt.alloc();
-    let foo = Library::parse(alloc, &FOO)?;
-    assert!(rt; is_for(&foo, 62, Order::Little, Width::W64, false));
-    let ppc = Library::parse(alloc, &PPC_STUB)?;
-    assert!(rt; is_for(&ppc, 20, Order::Big, Width::W32, false));
+fn targets_are_read(rt: HostRuntime) -> Result<(), Fail> {
+    assert!(rt; is_for(rt.alloc(), &FOO, 62, Order::Little, Width::W64)?);
+    assert!(rt; is_for(rt.alloc(), &PPC_STUB, 20, Order::Big, Width::W32)?);
+    Ok(())
+}
+
+#[test]
+fn versions_are_seen(rt: HostRuntime) -> Result<(), Fail> {
+    assert!(rt; !Library::parse(rt.alloc(), &FOO)?.is_versioned());
     // DT_SYMENT made DT_VERDEF.
-    let versioned = patched(alloc, &FOO, 0x188, &[0xfc, 0xff, 0xff, 0x6f])?;
-    let foo = Library::parse(alloc, &versioned)?;
-    assert!(rt; is_for(&foo, 62, Order::Little, Width::W64, true));
+    let file = patched(rt.alloc(), &FOO, 0x188, &[0xfc, 0xff, 0xff, 0x6f])?;
+    assert!(rt; Library::parse(rt.alloc(), &file)?.is_versioned());
     Ok(())
 }
 
@@ -142,8 +170,7 @@ fn has_names(
     table: &[Names],
 ) -> Result<(), ElfCause> {
     for &(at, bytes, wanted) in table {
-        let copy = patched(rt.alloc(), file, at, bytes)?;
-        let names = names_of(rt.alloc(), &copy)?;
+        let names = names_of(rt.alloc(), file, at, bytes)?;
         assert_eq!(rt; names.as_bytes(), wanted, "at {at}: {bytes:?}");
     }
     Ok(())
@@ -159,11 +186,7 @@ fn names_that_are_seen(rt: HostRuntime) -> Result<(), Fail> {
 
 #[test]
 fn bloom_words_have_the_width_of_the_file(rt: HostRuntime) -> Result<(), Fail> {
-    // DT_HASH made DT_GNU_HASH: 1 bucket, which is 0; row 3 is the first hashed one; 1 Bloom word.
-    let bare = bare_ppc_stub(rt.alloc())?;
-    let file = patched(rt.alloc(), &bare, 216, &[0x6f, 0xff, 0xfe, 0xf5])?;
-    let names = names_of(rt.alloc(), &file)?;
-    assert_eq!(rt; names.as_bytes(), b"libfoo.so: bar foo".as_slice());
+    has_names(&rt, &bare_ppc_stub(rt.alloc())?, &GNU_32_NAMES)?;
     Ok(())
 }
 
@@ -201,25 +224,20 @@ fn cause_of_first(alloc: Global, file: &[u8], len: usize) -> Option<ElfCause> {
     Library::parse(alloc, front).err()
 }
 
-#[test]
-fn files_that_are_cut(rt: HostRuntime) -> Result<(), Fail> {
-    let alloc = rt.alloc();
-    for &(from, end, wanted) in &CUT {
+// The first bytes of a file are answered so.
+fn is_cut(rt: &(impl Abort + AllocGlobal), file: &[u8], table: &[Cut]) {
+    for &(from, end, wanted) in table {
         for len in from..end {
-            let cause = cause_of_first(alloc, &STUB, len);
-            assert!(rt; cause == Some(wanted), "at {len}: {cause:?}");
+            let cause = cause_of_first(rt.alloc(), file, len);
+            assert!(rt; cause == wanted, "at {len}: {cause:?}");
         }
     }
-    let bare = bare_stub(alloc)?;
-    for len in 176..408 {
-        assert!(rt;
-            cause_of_first(alloc, &bare, len) == Some(ElfCause::Truncated(296)),
-            "at {len}"
-        );
-    }
-    for len in 408..841 {
-        assert!(rt; cause_of_first(alloc, &bare, len).is_none(), "at {len}");
-    }
+}
+
+#[test]
+fn files_that_are_cut(rt: HostRuntime) -> Result<(), Fail> {
+    is_cut(&rt, &STUB, &CUT);
+    is_cut(&rt, &bare_stub(rt.alloc())?, &CUT_BARE);
     Ok(())
 }
 
@@ -235,6 +253,7 @@ fn put_needed(file: &mut Vec<u8>, count: u64, value: u64) -> Result<(), Memory> 
 fn many_rows(alloc: Global, count: u32) -> Result<Vec<u8>, Memory> {
     let mut file = Vec::from_slice(alloc, &PPC_STUB)?;
     let size = count.saturating_mul(16);
+    // sh_offset and sh_size of .dynsym.
     put(&mut file, 364, &548u32.to_be_bytes());
     put(&mut file, 368, &size.to_be_bytes());
     file.resize(548usize.saturating_add(size as usize), 0x10)?;
@@ -242,18 +261,14 @@ fn many_rows(alloc: Global, count: u32) -> Result<Vec<u8>, Memory> {
 }
 
 #[test]
-fn a_million_of_rows_and_needed_libraries(rt: HostRuntime) -> Result<(), Fail> {
-    let alloc = rt.alloc();
-    let mut file = many_rows(alloc, 1_000_001)?;
-    let cause = Library::parse(alloc, &file).err();
-    assert!(rt;
-        cause == Some(ElfCause::BadName(NamePlace::Symbol(1))),
-        "{cause:?}"
-    );
+fn rows_and_needed_libraries_are_limited(rt: HostRuntime) -> Result<(), Fail> {
+    let mut file = many_rows(rt.alloc(), 1_000_001)?;
+    let cause = Library::parse(rt.alloc(), &file).err();
+    assert!(rt; cause == Some(ElfCause::BadName(NamePlace::Symbol(1))));
     // A needed library beside them, without a name.
     put(&mut file, 248, &[0, 0, 0, 1, 0, 0, 0, 0]);
-    let cause = Library::parse(alloc, &file).err();
-    assert!(rt; cause == Some(ElfCause::TooMany(1_000_001)), "{cause:?}");
+    let cause = Library::parse(rt.alloc(), &file).err();
+    assert!(rt; cause == Some(ElfCause::TooMany(1_000_001)));
     Ok(())
 }
 
@@ -262,9 +277,11 @@ fn a_million_of_rows_and_needed_libraries(rt: HostRuntime) -> Result<(), Fail> {
 // bytes, so that those of all names are 32 MiB where `last` is 6.
 fn long_names(alloc: Global, last: u64) -> Result<Vec<u8>, Memory> {
     let mut file = Vec::from_slice(alloc, &STUB)?;
+    // sh_offset, sh_size and sh_link of .dynamic.
     put(&mut file, 736, &840u64.to_le_bytes());
     put(&mut file, 744, &16384u64.to_le_bytes());
     put(&mut file, 752, &[3]);
+    // sh_type, sh_offset and sh_size of section 3.
     put(&mut file, 652, &[3]);
     put(&mut file, 672, &17224u64.to_le_bytes());
     put(&mut file, 680, &32769u64.to_le_bytes());
@@ -277,14 +294,10 @@ fn long_names(alloc: Global, last: u64) -> Result<Vec<u8>, Memory> {
 
 #[test]
 fn long_names_are_limited(rt: HostRuntime) -> Result<(), Fail> {
-    let alloc = rt.alloc();
-    let library = Library::parse(alloc, &long_names(alloc, 6)?)?;
-    assert_eq!(rt; library.needed_texts().len(), 1024);
-    assert_eq!(rt; library.rows().len(), 2);
-    let cause = Library::parse(alloc, &long_names(alloc, 5)?).err();
-    assert!(rt;
-        cause == Some(ElfCause::NamesTooLarge(33_554_433)),
-        "{cause:?}"
-    );
+    let file = long_names(rt.alloc(), 6)?;
+    assert!(rt; Library::parse(rt.alloc(), &file).is_ok());
+    let file = long_names(rt.alloc(), 5)?;
+    let cause = Library::parse(rt.alloc(), &file).err();
+    assert!(rt; cause == Some(ElfCause::NamesTooLarge(33_554_433)));
     Ok(())
 }

@@ -26,15 +26,26 @@ pub type Names = (usize, &'static [u8], &'static [u8]);
 /// An offset, the bytes put from there on, and why the file is refused then.
 pub type Damage = (usize, &'static [u8], ElfCause);
 
-/// From how many bytes on and below how many the first bytes of a file are refused, and why.
-pub type Cut = (usize, usize, ElfCause);
+/// From how many bytes on and below how many the first bytes of a file are refused, and why; None where they
+/// are read.
+pub type Cut = (usize, usize, Option<ElfCause>);
 
 /// The stub, cut.
-pub static CUT: [Cut; 4] = [
-    (0, 4, ElfCause::NotElf),
-    (4, 64, ElfCause::Truncated(0)),
-    (64, 176, ElfCause::Truncated(64)),
-    (176, 840, ElfCause::Truncated(456)),
+pub static CUT: [Cut; 5] = [
+    (0, 4, Some(ElfCause::NotElf)),
+    (4, 64, Some(ElfCause::Truncated(0))),
+    (64, 176, Some(ElfCause::Truncated(64))),
+    (176, 840, Some(ElfCause::Truncated(456))),
+    (840, 841, None),
+];
+
+/// The stub without section headers, cut.
+pub static CUT_BARE: [Cut; 5] = [
+    (0, 4, Some(ElfCause::NotElf)),
+    (4, 64, Some(ElfCause::Truncated(0))),
+    (64, 176, Some(ElfCause::Truncated(64))),
+    (176, 408, Some(ElfCause::Truncated(296))),
+    (408, 841, None),
 ];
 
 /// The stub, changed and read. Row 1, `bar`, is at 200, the last dynamic entry before DT_NULL at 376.
@@ -59,14 +70,20 @@ pub static NAMES: [Names; 22] = [
     (376, &[14, 0, 0, 0, 0, 0, 0, 0, 1], b"libfoo.so: bar foo"),
     (376, &[14, 0, 0, 0, 0, 0, 0, 0, 99], b"libfoo.so: bar foo"),
     (296, &[0], b": bar foo"),
-    // A needed library, one without a name, one behind the last entry.
+    // A needed library, one without a name, one behind DT_NULL.
     (
         376,
         &[1, 0, 0, 0, 0, 0, 0, 0, 5],
         b"libfoo.so: bar foo <foo",
     ),
     (376, &[1, 0, 0, 0, 0, 0, 0, 0, 0], b"libfoo.so: bar foo"),
-    (392, &[0, 0, 0, 0, 0, 0, 0, 0, 5], b"libfoo.so: bar foo"),
+    (
+        376,
+        &[
+            0, 0, 0, 0, 0, 0, 0, 0, 0, 0, 0, 0, 0, 0, 0, 0, 1, 0, 0, 0, 0, 0, 0, 0, 5,
+        ],
+        b"libfoo.so: bar foo",
+    ),
     // .dynstr over .dynsym; no dynamic section, no section of dynamic symbols.
     (608, &[176], b":"),
     (716, &[0], b"libfoo.so: bar foo"),
@@ -99,6 +116,10 @@ pub static GNU_NAMES: [Names; 6] = [
         b"libfoo.so:",
     ),
 ];
+
+/// The stub of 32 bits without section headers: DT_HASH made DT_GNU_HASH, whose words are one bucket, 3 as the
+/// first hashed row, one Bloom word, a shift, the Bloom word and the bucket 0.
+pub static GNU_32_NAMES: [Names; 1] = [(216, &[0x6f, 0xff, 0xfe, 0xf5], b"libfoo.so: bar foo")];
 
 /// The stub, refused.
 pub static SECTION_DAMAGE: [Damage; 14] = [
@@ -133,11 +154,11 @@ pub static SEGMENT_DAMAGE: [Damage; 14] = [
     (344, &[11], ElfCause::NoDynamic),
     (360, &[11], ElfCause::NoDynamic),
     (296, &[0], ElfCause::NoDynamic),
-    // Addresses that no segment holds: of the strings, of the hash table, of the symbols.
+    // Addresses that no segment holds: of the strings, of the hash table, of the rows.
     (336, &[0x98, 0x01], ElfCause::Truncated(408)),
     (320, &[0x98, 0x01], ElfCause::Truncated(408)),
     (352, &[0x98, 0x01], ElfCause::Truncated(408)),
-    // No segment but for the strings: the hash table is looked at next.
+    // No segment at all: the strings are looked at first. One for the strings alone: the hash table comes next.
     (64, &[0], ElfCause::Truncated(248)),
     (
         80,
