@@ -20,3 +20,6 @@ mod strings;
 pub use elf_file::{ElfCause, NamePlace};
 pub use ifs_interface::DynRow;
 pub use library::Library;
+
+#[cfg(test)]
+mod tests;

@@ -1,0 +1,181 @@
+//! Changes of the fixtures, each a few bytes from an offset on, with what the gABI and the limits make of them.
+
+use crate::{ElfCause, NamePlace};
+
+/// The name, type, value and size of a visible row, which is GLOBAL and of section 1.
+pub type SeenRow = (&'static [u8], u8, u64, u64);
+
+/// The rows of the libraries that are loaded at 0x10000.
+pub static LOADED_ROWS: [SeenRow; 2] = [(b"foo", 2, 0x100b0, 0), (b"bar", 1, 0x100b4, 42)];
+
+/// The rows of the stubs.
+pub static STUB_ROWS: [SeenRow; 2] = [(b"bar", 1, 0, 42), (b"foo", 2, 0, 0)];
+
+/// The rows of the library with several rows of one name: the hidden one disappears, the protected one stays.
+pub static QUIRKS_ROWS: [SeenRow; 4] = [
+    (b"zed", 2, 0, 0),
+    (b"foo", 10, 0x50, 0),
+    (b"foo", 2, 0x60, 0),
+    (b"bar", 1, 0, 42),
+];
+
+/// An offset, the bytes put from there on, and the names of the library that this leaves: the soname and a
+/// colon, then the rows, then what is needed.
+pub type Names = (usize, &'static [u8], &'static [u8]);
+
+/// An offset, the bytes put from there on, and why the file is refused then.
+pub type Damage = (usize, &'static [u8], ElfCause);
+
+/// From how many bytes on and below how many the first bytes of a file are refused, and why; None where they
+/// are read.
+pub type Cut = (usize, usize, Option<ElfCause>);
+
+/// The stub, cut.
+pub static CUT: [Cut; 5] = [
+    (0, 4, Some(ElfCause::NotElf)),
+    (4, 64, Some(ElfCause::Truncated(0))),
+    (64, 176, Some(ElfCause::Truncated(64))),
+    (176, 840, Some(ElfCause::Truncated(456))),
+    (840, 841, None),
+];
+
+/// The stub without section headers, cut.
+pub static CUT_BARE: [Cut; 5] = [
+    (0, 4, Some(ElfCause::NotElf)),
+    (4, 64, Some(ElfCause::Truncated(0))),
+    (64, 176, Some(ElfCause::Truncated(64))),
+    (176, 408, Some(ElfCause::Truncated(296))),
+    (408, 841, None),
+];
+
+/// The stub, changed and read. Row 1, `bar`, is at 200, the last dynamic entry before DT_NULL at 376.
+pub static NAMES: [Names; 22] = [
+    (0, &[], b"libfoo.so: bar foo"),
+    // Internal, hidden, protected; the upper bits of st_other don't count.
+    (205, &[1], b"libfoo.so: foo"),
+    (205, &[2], b"libfoo.so: foo"),
+    (205, &[3], b"libfoo.so: bar foo"),
+    (205, &[0xfe], b"libfoo.so: foo"),
+    (205, &[0xfc], b"libfoo.so: bar foo"),
+    // LOCAL, another binding, no name, a bad name of a LOCAL row.
+    (204, &[0x01], b"libfoo.so: foo"),
+    (204, &[0xf1], b"libfoo.so: bar foo"),
+    (200, &[0], b"libfoo.so: foo"),
+    (200, &[99, 0, 0, 0, 0x01], b"libfoo.so: foo"),
+    // Row 0 as a GLOBAL one, with a name and with a bad one.
+    (176, &[1, 0, 0, 0, 0x11], b"libfoo.so: bar foo"),
+    (176, &[99, 0, 0, 0, 0x11], b"libfoo.so: bar foo"),
+    // An empty soname, a second one, one with a bad name, DT_NULL first.
+    (304, &[0], b": bar foo"),
+    (376, &[14, 0, 0, 0, 0, 0, 0, 0, 1], b"libfoo.so: bar foo"),
+    (376, &[14, 0, 0, 0, 0, 0, 0, 0, 99], b"libfoo.so: bar foo"),
+    (296, &[0], b": bar foo"),
+    // A needed library, one without a name, one behind DT_NULL.
+    (
+        376,
+        &[1, 0, 0, 0, 0, 0, 0, 0, 5],
+        b"libfoo.so: bar foo <foo",
+    ),
+    (376, &[1, 0, 0, 0, 0, 0, 0, 0, 0], b"libfoo.so: bar foo"),
+    (
+        376,
+        &[
+            0, 0, 0, 0, 0, 0, 0, 0, 0, 0, 0, 0, 0, 0, 0, 0, 1, 0, 0, 0, 0, 0, 0, 0, 5,
+        ],
+        b"libfoo.so: bar foo",
+    ),
+    // .dynstr over .dynsym; no dynamic section, no section of dynamic symbols.
+    (608, &[176], b":"),
+    (716, &[0], b"libfoo.so: bar foo"),
+    (524, &[0], b"libfoo.so: bar foo"),
+];
+
+/// The stub without section headers, changed and read.
+pub static BY_ADDRESS: [Names; 5] = [
+    (0, &[], b"libfoo.so: bar foo"),
+    // The number of chain words.
+    (276, &[2], b"libfoo.so: bar"),
+    (276, &[1], b"libfoo.so:"),
+    (276, &[0], b"libfoo.so:"),
+    // The first DT_STRSZ counts.
+    (376, &[10, 0, 0, 0, 0, 0, 0, 0, 0], b"libfoo.so: bar foo"),
+];
+
+/// The library with a GNU hash table, changed and read.
+pub static GNU_NAMES: [Names; 6] = [
+    (0, &[], b"libfoo.so: foo bar"),
+    // The bucket 0; no bucket, with 1 and 3 as the first hashed row; row 0 as the first.
+    (312, &[0], b"libfoo.so:"),
+    (288, &[0], b"libfoo.so:"),
+    (288, &[0, 0, 0, 0, 3], b"libfoo.so: foo bar"),
+    (292, &[0], b"libfoo.so: foo"),
+    // DT_HASH beside it: its number of chain words stands at 312.
+    (
+        408,
+        &[4, 0, 0, 0, 0, 0, 0, 0, 0x34, 0x01, 0x01],
+        b"libfoo.so:",
+    ),
+];
+
+/// The stub of 32 bits without section headers: DT_HASH made DT_GNU_HASH, whose words are one bucket, 3 as the
+/// first hashed row, one Bloom word, a shift, the Bloom word and the bucket 0.
+pub static GNU_32_NAMES: [Names; 1] = [(216, &[0x6f, 0xff, 0xfe, 0xf5], b"libfoo.so: bar foo")];
+
+/// The stub, refused.
+pub static SECTION_DAMAGE: [Damage; 14] = [
+    (0, b"!<arch>\n", ElfCause::Archive),
+    (16, &[2], ElfCause::WrongKind),
+    // The last byte of .dynstr, which ends the soname; places at the end of .dynstr.
+    (266, b"x", ElfCause::BadName(NamePlace::Dynamic(0))),
+    (304, &[19], ElfCause::BadName(NamePlace::Dynamic(0))),
+    (376, &[1], ElfCause::BadName(NamePlace::Dynamic(5))),
+    (200, &[19], ElfCause::BadName(NamePlace::Symbol(1))),
+    (224, &[19], ElfCause::BadName(NamePlace::Symbol(2))),
+    // Both a bad soname and a bad row.
+    (616, &[4], ElfCause::BadName(NamePlace::Dynamic(0))),
+    // sh_offset of .dynsym, of .dynamic and of .dynstr, and its sh_size.
+    (544, &[0xff; 8], ElfCause::Truncated(u64::MAX)),
+    (736, &[0xff; 8], ElfCause::Truncated(u64::MAX)),
+    (608, &[0xff; 8], ElfCause::Truncated(u64::MAX)),
+    (616, &[0xff; 8], ElfCause::Truncated(248)),
+    // sh_link: no string table, no section.
+    (752, &[1], ElfCause::BadHeader),
+    (560, &[6], ElfCause::BadHeader),
+];
+
+/// The stub without section headers, refused.
+pub static SEGMENT_DAMAGE: [Damage; 14] = [
+    // No PT_DYNAMIC, and one outside the file.
+    (120, &[0], ElfCause::NoDynamic),
+    (128, &[0xff; 8], ElfCause::Truncated(u64::MAX)),
+    // No DT_HASH, DT_STRTAB, DT_SYMTAB, DT_STRSZ; no entry at all.
+    (312, &[11], ElfCause::NoDynamic),
+    (328, &[11], ElfCause::NoDynamic),
+    (344, &[11], ElfCause::NoDynamic),
+    (360, &[11], ElfCause::NoDynamic),
+    (296, &[0], ElfCause::NoDynamic),
+    // Addresses that no segment holds: of the strings, of the hash table, of the rows.
+    (336, &[0x98, 0x01], ElfCause::Truncated(408)),
+    (320, &[0x98, 0x01], ElfCause::Truncated(408)),
+    (352, &[0x98, 0x01], ElfCause::Truncated(408)),
+    // No segment at all: the strings are looked at first. One for the strings alone: the hash table comes next.
+    (64, &[0], ElfCause::Truncated(248)),
+    (
+        80,
+        &[240, 0, 0, 0, 0, 0, 0, 0, 0, 0, 0, 0, 0, 0, 0, 0, 24, 0],
+        ElfCause::Truncated(272),
+    ),
+    // The size of the strings; the number of chain words.
+    (368, &[0xff; 8], ElfCause::Truncated(248)),
+    (276, &[0xff; 4], ElfCause::Truncated(176)),
+];
+
+/// The library with a GNU hash table, refused.
+pub static GNU_DAMAGE: [Damage; 4] = [
+    // A chain that is even up to the end of the file, and one that begins outside.
+    (312, &[28], ElfCause::Truncated(440)),
+    (312, &[0xff; 4], ElfCause::Truncated(17_179_869_492)),
+    // As many buckets and Bloom words as there may be.
+    (288, &[0xff; 4], ElfCause::Truncated(440)),
+    (296, &[0xff; 4], ElfCause::Truncated(34_359_738_664)),
+];
