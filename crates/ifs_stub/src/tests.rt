@@ -1,8 +1,13 @@
-ghost use Rattle.std.specs.Prelude.{◌≡◌, IfOk};
+ghost use Rattle.std.specs.Prelude.{◌≡◌, true, IfOk};
+ghost use Rattle.std.specs.List.{list_all};
+ghost use Rattle.ifs_interface.specs.Interface.{is_proper_name, names_of};
 
+mod samples;
+
+use self::samples::{NARROW, WIDE};
 use super::*;
 use ifs_bytes::{Memory, Order, Text, Width};
-use ifs_interface::{DynRow, Kind, Symbol};
+use ifs_interface::{DynRow, Interface, Kind, Symbol, Target};
 use std::alloc::Global;
 use std::test::Fail;
 
@@ -83,5 +88,71 @@ fn sizes_go_by_kind(rt: HostRuntime) -> Result<(), Fail> {
     assert!(rt; is_sized(&symbols, 1, b"2", Kind::Object, Some(0)));
     assert!(rt; is_sized(&symbols, 2, b"3", Kind::NoType, None));
     assert!(rt; is_sized(&symbols, 3, b"4", Kind::Unknown, Some(5)));
+    Ok(())
+}
+
+// A target of which all is known.
+fn target(machine: u16, order: Order, width: Width) -> Target
+    ensures { result.triple ≡ None }
+{
+    Target {
+        triple: None,
+        machine: Some(machine),
+        order: Some(order),
+        width: Some(width),
+    }
+}
+
+fn symbol(alloc: Global, name: &[u8], kind: Kind, size: Option<u64>) -> Result<Symbol, Memory>
+    ensures { IfOk result (λ symbol. symbol.name ≡ name.now) }
+{
+    Ok(Symbol {
+        name: Text::from_slice(alloc, name)?,
+        kind,
+        size,
+        weak: false,
+        undefined: false,
+        warning: None,
+    })
+}
+
+// The symbols `bar`, data of that size, and `foo`, code.
+fn two_symbols(alloc: Global, size: u64) -> Result<Vec<Symbol>, Memory>
+    ensures { IfOk result (λ symbols. list_all is_proper_name (names_of symbols.items) ≡ true) }
+{
+    let mut symbols = Vec::new(alloc);
+    symbols.push(symbol(alloc, b"bar", Kind::Object, Some(size))?)?;
+    symbols.push(symbol(alloc, b"foo", Kind::Func, None)?)?;
+    Ok(symbols)
+}
+
+// Whether the stub of `libfoo.so` with these symbols is just these bytes.
+fn is_stub(
+    alloc: Global,
+    target: Target,
+    symbols: Vec<Symbol>,
+    wanted: &[u8],
+) -> Result<bool, Memory>
+    requires triple { target.triple ≡ None }
+    requires names { list_all is_proper_name (names_of symbols.items) ≡ true }
+{
+    let soname = Text::from_slice(alloc, b"libfoo.so")?;
+    let is = match Interface::new(Some(soname), target, Vec::new(alloc), symbols) {
+        Ok(interface) => match emit(alloc, &interface) {
+            Ok(bytes) => bytes.as_slice() == wanted,
+            Err(_cause) => false,
+        },
+        Err(_name) => false,
+    };
+    Ok(is)
+}
+
+#[test]
+fn stubs_byte_by_byte(rt: HostRuntime) -> Result<(), Fail> {
+    let alloc = rt.alloc();
+    let wide = target(62, Order::Little, Width::W64);
+    assert!(rt; is_stub(alloc, wide, two_symbols(alloc, 42)?, &WIDE)?);
+    let narrow = target(20, Order::Big, Width::W32);
+    assert!(rt; is_stub(alloc, narrow, two_symbols(alloc, 42)?, &NARROW)?);
     Ok(())
 }
