@@ -3,3 +3,4 @@ pub mod Triple
 pub mod Library
 pub mod Interface
 pub mod Extracted
+pub mod Parts

@@ -8,12 +8,14 @@
 
 mod arch;
 mod interface;
+mod machine;
 mod row;
 mod symbol;
 mod target;
 
 pub use arch::put_arch;
 pub use interface::{Interface, copied_texts};
+pub use machine::{parts, triple_parts};
 pub use row::DynRow;
 pub use symbol::{Kind, Symbol};
 pub use target::{MachineFact, Target};

@@ -83,3 +83,15 @@ fn machines(rt: HostRuntime) -> Result<(), Fail> {
     );
     Ok(())
 }
+
+#[test]
+fn triples(rt: HostRuntime) -> Result<(), Fail> {
+    let fact = triple_parts(b"powerpc64-linux-gnu").ok_or("known")?;
+    assert_eq!(rt; fact.machine, Some(21));
+    assert!(rt; fact.order == Some(Order::Big) && fact.width == Some(Width::W64));
+    assert!(rt; triple_parts(b"thumbv7-linux").is_some());
+    assert!(rt; triple_parts(b"x86_64").is_none());
+    assert!(rt; triple_parts(b"x86-linux").is_none());
+    assert_eq!(rt; parts(&target()).machine, Some(62));
+    Ok(())
+}

@@ -6,3 +6,5 @@ pub mod Runs
 pub mod Pointed
 pub mod Sorting
 pub mod RankedOrder
+pub mod Fits
+pub mod SymbolRows

@@ -1,17 +1,33 @@
-//! From a library to its interface.
+//! From a library to its interface, and from an interface to a stub library.
 //!
 //! The rows of a library's dynamic symbol table are put in byte order of their names, and each run of rows of
 //! one name becomes one symbol (`symbols_of`). With the library's soname, machine and needed libraries these
 //! are its interface (`extract`).
+//!
+//! A stub library has what an interface says and nothing else: the file is described part by part in
+//! specs/StubFile.antt, each part with its place and its bytes. `emit` looks at the limits, counts the names,
+//! takes the room for the whole file, and writes each part once, in order.
 #![tactic(auto)]
 
+mod cause;
 mod collapse;
 mod described;
+mod dynamic;
+mod hash;
+mod headers;
 mod interface;
+mod layout;
+mod limits;
 mod ranked;
+mod sections;
+mod strings;
+mod stub;
+mod symbols;
 
+pub use cause::{StubCause, TargetField};
 pub use collapse::symbols_of;
 pub use interface::extract;
+pub use stub::emit;
 
 #[cfg(test)]
 mod tests;

@@ -1,8 +1,13 @@
-ghost use Rattle.std.specs.Prelude.{◌≡◌, IfOk};
+ghost use Rattle.std.specs.Prelude.{◌≡◌, true, IfOk};
+ghost use Rattle.std.specs.List.{list_all};
+ghost use Rattle.ifs_interface.specs.Interface.{is_proper_name, names_of};
 
+mod samples;
+
+use self::samples::{NARROW, WIDE};
 use super::*;
 use ifs_bytes::{Memory, Order, Text, Width};
-use ifs_interface::{DynRow, Kind, Symbol};
+use ifs_interface::{DynRow, Interface, Kind, Symbol, Target};
 use std::alloc::Global;
 use std::test::Fail;
 
@@ -83,5 +88,173 @@ fn sizes_go_by_kind(rt: HostRuntime) -> Result<(), Fail> {
     assert!(rt; is_sized(&symbols, 1, b"2", Kind::Object, Some(0)));
     assert!(rt; is_sized(&symbols, 2, b"3", Kind::NoType, None));
     assert!(rt; is_sized(&symbols, 3, b"4", Kind::Unknown, Some(5)));
+    Ok(())
+}
+
+// A target of which all is known.
+fn target(machine: u16, order: Order, width: Width) -> Target
+    ensures { result.triple ≡ None }
+{
+    Target {
+        triple: None,
+        machine: Some(machine),
+        order: Some(order),
+        width: Some(width),
+    }
+}
+
+fn symbol(alloc: Global, name: &[u8], kind: Kind, size: Option<u64>) -> Result<Symbol, Memory>
+    ensures { IfOk result (λ symbol. symbol.name ≡ name.now) }
+{
+    Ok(Symbol {
+        name: Text::from_slice(alloc, name)?,
+        kind,
+        size,
+        weak: false,
+        undefined: false,
+        warning: None,
+    })
+}
+
+// The symbols `bar`, data of that size, and `foo`, code.
+fn two_symbols(alloc: Global, size: u64) -> Result<Vec<Symbol>, Memory>
+    ensures { IfOk result (λ symbols. list_all is_proper_name (names_of symbols.items) ≡ true) }
+{
+    let mut symbols = Vec::new(alloc);
+    symbols.push(symbol(alloc, b"bar", Kind::Object, Some(size))?)?;
+    symbols.push(symbol(alloc, b"foo", Kind::Func, None)?)?;
+    Ok(symbols)
+}
+
+// The stub of `libfoo.so` with these symbols; empty where there is none.
+fn stub(alloc: Global, target: Target, symbols: Vec<Symbol>) -> Result<Vec<u8>, Memory>
+    requires triple { target.triple ≡ None }
+    requires names { list_all is_proper_name (names_of symbols.items) ≡ true }
+{
+    let soname = Text::from_slice(alloc, b"libfoo.so")?;
+    let bytes = match Interface::new(Some(soname), target, Vec::new(alloc), symbols) {
+        Ok(interface) => emit(alloc, &interface).unwrap_or(Vec::new(alloc)),
+        Err(_name) => Vec::new(alloc),
+    };
+    Ok(bytes)
+}
+
+#[test]
+fn stubs_byte_by_byte(rt: HostRuntime) -> Result<(), Fail> {
+    let alloc = rt.alloc();
+    let wide = stub(
+        alloc,
+        target(62, Order::Little, Width::W64),
+        two_symbols(alloc, 42)?,
+    )?;
+    assert!(rt; wide.as_slice() == WIDE.as_slice());
+    let narrow = stub(
+        alloc,
+        target(20, Order::Big, Width::W32),
+        two_symbols(alloc, 42)?,
+    )?;
+    assert!(rt; narrow.as_slice() == NARROW.as_slice());
+    Ok(())
+}
+
+#[test]
+fn a_stub_without_symbols(rt: HostRuntime) -> Result<(), Fail> {
+    let alloc = rt.alloc();
+    let bytes = stub(
+        alloc,
+        target(62, Order::Little, Width::W64),
+        Vec::new(alloc),
+    )?;
+    assert_eq!(rt; bytes.len(), 776);
+    assert!(rt; &bytes[200..211] == b"\0libfoo.so\0".as_slice());
+    let hash = [1, 0, 0, 0, 1, 0, 0, 0, 0, 0, 0, 0, 0, 0, 0, 0];
+    assert!(rt; &bytes[216..232] == hash.as_slice());
+    Ok(())
+}
+
+// That many names of these bytes.
+fn copies(alloc: Global, name: &[u8], count: usize) -> Result<Vec<Text>, Memory>
+    requires { is_proper_name name.now ≡ true }
+    ensures { IfOk result (λ names. list_all is_proper_name names.items ≡ true) }
+{
+    let mut names = Vec::with_capacity(alloc, count)?;
+    for _turn in 0..count {
+        names.push(Text::from_slice(alloc, name)?)?;
+    }
+    Ok(names)
+}
+
+// Why there is no stub of these parts; empty where there is one.
+fn refusal(
+    alloc: Global,
+    target: Target,
+    needed: Vec<Text>,
+    symbols: Vec<Symbol>,
+) -> Result<Text, Memory>
+    requires triple { target.triple ≡ None }
+    requires needed_names { list_all is_proper_name needed.items ≡ true }
+    requires names { list_all is_proper_name (names_of symbols.items) ≡ true }
+{
+    match Interface::new(None, target, needed, symbols) {
+        Ok(interface) => match emit(alloc, &interface) {
+            Ok(_bytes) => Ok(Text::new(alloc)),
+            Err(cause) => cause.printed(alloc),
+        },
+        Err(name) => Ok(name),
+    }
+}
+
+// The target of x86-64.
+fn wide() -> Target
+    ensures { result.triple ≡ None }
+{
+    target(62, Order::Little, Width::W64)
+}
+
+#[test]
+fn targets_that_are_not_whole(rt: HostRuntime) -> Result<(), Fail> {
+    let alloc = rt.alloc();
+    let mut unknown = wide();
+    unknown.machine = None;
+    unknown.width = None;
+    let cause = refusal(
+        alloc,
+        unknown,
+        Vec::new(alloc),
+        two_symbols(alloc, 1 << 32)?,
+    )?;
+    assert!(rt; cause.as_bytes() == b"TargetIncomplete(Arch)".as_slice());
+    let mut no_width = wide();
+    no_width.width = None;
+    no_width.order = None;
+    let cause = refusal(alloc, no_width, Vec::new(alloc), Vec::new(alloc))?;
+    assert!(rt; cause.as_bytes() == b"TargetIncomplete(BitWidth)".as_slice());
+    let mut no_order = wide();
+    no_order.order = None;
+    let cause = refusal(alloc, no_order, Vec::new(alloc), Vec::new(alloc))?;
+    assert!(rt; cause.as_bytes() == b"TargetIncomplete(Endianness)".as_slice());
+    Ok(())
+}
+
+#[test]
+fn a_size_too_wide(rt: HostRuntime) -> Result<(), Fail> {
+    let alloc = rt.alloc();
+    let narrow = target(3, Order::Little, Width::W32);
+    let cause = refusal(alloc, narrow, Vec::new(alloc), two_symbols(alloc, 1 << 32)?)?;
+    assert!(rt; cause.as_bytes() == b"SizeTooWide(bar)".as_slice());
+    let cause = refusal(alloc, wide(), Vec::new(alloc), two_symbols(alloc, 1 << 32)?)?;
+    assert!(rt; cause.as_bytes() == b"".as_slice());
+    Ok(())
+}
+
+#[test]
+fn too_much(rt: HostRuntime) -> Result<(), Fail> {
+    let alloc = rt.alloc();
+    let many = copies(alloc, b"a", 999_999)?;
+    let cause = refusal(alloc, wide(), many, two_symbols(alloc, 0)?)?;
+    assert!(rt; cause.as_bytes() == b"TooManySymbols(1000001)".as_slice());
+    let large = copies(alloc, b"lib-with-a-long-name-of-34-bytes.a", 1_000_000)?;
+    let cause = refusal(alloc, wide(), large, Vec::new(alloc))?;
+    assert!(rt; cause.as_bytes() == b"NamesTooLarge(34000000)".as_slice());
     Ok(())
 }

@@ -1,0 +1,19 @@
+-- Causes as text: the name of the cause, and its field in parentheses, a number in decimal.
+use Rattle.std.specs.Prelude.{ℕ, List, ◌++◌, codes, decimal}
+use Rattle.ifs_stub.specs.declared.cause.StubCause.{StubCause}
+use Rattle.ifs_stub.specs.declared.cause.StubCause.TheVariants as causes
+use Rattle.ifs_stub.specs.declared.cause.TargetField.{TargetField}
+use Rattle.ifs_stub.specs.declared.cause.TargetField.TheVariants.{Arch, BitWidth, Endianness, Triple}
+
+abbrev pub field_name : TargetField → List ℕ
+field_name Arch = codes "Arch"
+field_name BitWidth = codes "BitWidth"
+field_name Endianness = codes "Endianness"
+field_name Triple = codes "Triple"
+
+abbrev pub printed_stub_cause : StubCause → List ℕ
+printed_stub_cause (causes.TargetIncomplete field) = codes "TargetIncomplete(" ++ field_name field ++ codes ")"
+printed_stub_cause (causes.SizeTooWide name) = codes "SizeTooWide(" ++ name ++ codes ")"
+printed_stub_cause (causes.TooManySymbols count) = codes "TooManySymbols(" ++ decimal count ++ codes ")"
+printed_stub_cause (causes.NamesTooLarge size) = codes "NamesTooLarge(" ++ decimal size ++ codes ")"
+printed_stub_cause causes.Memory = codes "Memory"
