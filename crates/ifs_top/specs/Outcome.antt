@@ -9,9 +9,9 @@ use Rattle.elf_dyn.specs.Library.{library_of}
 use Rattle.ifs_interface.specs.Extracted.{interface_of}
 use Rattle.ifs_interface.specs.Interface.{InterfaceRecord}
 use Rattle.ifs_interface.specs.Library.{LibraryRecord}
-use Rattle.ifs_stub.specs.Cause.{printed_stub_cause}
-use Rattle.ifs_stub.specs.StubFile.{stub_of}
-use Rattle.ifs_stub.specs.declared.emit.StubCause.{StubCause}
+use Rattle.ifs_stub.specs.Printed.{printed_stub_cause}
+use Rattle.ifs_stub.specs.Stub.{stub_of}
+use Rattle.ifs_stub.specs.declared.cause.StubCause.{StubCause}
 use Rattle.ifs_text.specs.Printed.{printed_interface}
 use Rattle.ifs_top.specs.declared.limits.TheConstants.{MOST_FILE_BYTES}
 use Rattle.ifs_top.specs.declared.reply.Output.{Output}

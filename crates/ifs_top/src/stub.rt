@@ -16,7 +16,7 @@ use elf_dyn::{ElfCause, Library};
 use ifs_bytes::{List, Memory, Text};
 use ifs_interface::Interface;
 use ifs_outside::{Files, ReadCause};
-use ifs_stub::{StubCause, emit_text, extract};
+use ifs_stub::{StubCause, emit, extract};
 use ifs_text::print;
 use std::alloc::Global;
 
@@ -87,7 +87,10 @@ fn stub_for(alloc: Global, path: Option<&[u8]>, interface: &Interface) -> Result
     ensures { UnlessMemory StubCause.Memory result (stub_for (option_copied path.entry) interface.now) }
 {
     match path {
-        Some(_) => emit_text(alloc, interface),
+        Some(_) => match emit(alloc, interface) {
+            Ok(bytes) => Ok(Text::from_vec(bytes)),
+            Err(cause) => Err(cause),
+        },
         None => Ok(Text::new(alloc)),
     }
 }
