@@ -20,7 +20,9 @@ PAPERS = ["README.md", *(f"docs/{name}" for name in ("ARCHITECTURE.md", "DECISIO
 
 
 def text_of(path):
-    return (TOP / path).read_text(encoding="utf-8")
+    """The text of a file, empty where it isn't there."""
+    full = TOP / path
+    return full.read_text(encoding="utf-8") if full.exists() else ""
 
 
 def files():
