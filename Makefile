@@ -1,22 +1,20 @@
-# Builds, tests and installs ifs, with the command `rt` of the kit.
-
 PREFIX ?= /usr/local
 PROGRAM = crates/ifs/out/ifs
 
 .PHONY: all test install clean
 
-# Proves all crates, and links the program, which `rt run` then runs once; its text isn't wanted here.
-all:
+# Proves the program and what it stands on, and builds it.
+all: $(PROGRAM)
+
+$(PROGRAM): $(shell find crates -path '*/out' -prune -o \( -name '*.rt' -o -name '*.antt' \) -print) crates.txt
 	cd crates/ifs && rt run -- stub --output-ifs=- data/libfoo.so >/dev/null
+	@touch $(PROGRAM)
 
 test:
 	.ci/run
 
-$(PROGRAM):
-	$(MAKE) all
-
 install: $(PROGRAM)
-	install -D -m 755 $(PROGRAM) $(DESTDIR)$(PREFIX)/bin/ifs
+	install -D $(PROGRAM) $(DESTDIR)$(PREFIX)/bin/ifs
 	install -D -m 644 docs/ifs.1 $(DESTDIR)$(PREFIX)/share/man/man1/ifs.1
 
 clean:

@@ -223,13 +223,14 @@ def memory_ratio(row, floor):
 
 
 def table(rows, floor):
-    lines = ["| Symbols | Time by that of llvm-ifs | Time by that of a tenth of the symbols | Peak memory by that of llvm-ifs | Peak memory |",
+    lines = ["| Symbols | Time, llvm-ifs = 1 | Time, a tenth of the symbols = 1 | Peak memory, llvm-ifs = 1 | Peak memory |",
              "|---:|---:|---:|---:|---:|"]
     for row in rows:
         ratio = f"{row.own.seconds / row.peer.seconds:.2f}" if row.peer else ""
         factor = tenfold(rows, row)
         more = f"{factor:.1f}" if factor else ""
-        lines.append(f"| {row.symbols:,} | {ratio} | {more} | {memory_ratio(row, floor)} | {megabytes(row.own.mib, floor)} |")
+        cells = [f"{row.symbols:,}", ratio, more, memory_ratio(row, floor), megabytes(row.own.mib, floor)]
+        lines.append(f"| {' | '.join(cells)} |")
     return "\n".join(lines)
 
 
@@ -248,8 +249,8 @@ def machine(peer):
         told = subprocess.run([peer, "--version"], capture_output=True, text=True).stdout
         beside = "llvm-ifs of LLVM " + first_match(r"LLVM version (\S+)", told, "?")
     day = datetime.date.today()
-    return (f"Measured on {day.day} {day:%B %Y}: {os.cpu_count()} processors ({processor}), {memory:.0f} GiB of memory, "
-            f"{system}, {beside}.")
+    return (f"Measured on {day.day} {day:%B %Y}: {os.cpu_count()} processors ({processor}), "
+            f"{memory:.0f} GiB of memory, {system}, {beside}.")
 
 
 def fill(readme, text):

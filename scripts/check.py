@@ -57,6 +57,13 @@ def named_crates():
                 yield f"{paper} says nothing of the crate {name}"
 
 
+def edits():
+    for name in crates():
+        crate = TOP / "crates" / name
+        if not list(crate.glob("must-fail/*.edit")) and not (crate / "src/main.rt").exists():
+            yield f"the crate {name} has no edit that the check must refuse"
+
+
 def pages():
     return [*PAPERS, *sorted(str(p.relative_to(TOP)) for p in (TOP / "docs/format").glob("*.md"))]
 
@@ -127,7 +134,7 @@ def scripts():
 
 
 def main():
-    found = [fault for check in (handles, citations, named_crates, named_paths, named_definitions, named_words,
+    found = [fault for check in (handles, citations, named_crates, edits, named_paths, named_definitions, named_words,
                                  readme, manual, scripts) for fault in check()]
     for fault in found:
         print(f"check: {fault}", file=sys.stderr)

@@ -3,20 +3,23 @@
 
     scripts/try_system.py [--program PATH] [--most COUNT] [--segments] [FOLDER ..]
 
-It takes each file below the folders, by default the usual ones of libraries, whose name has `.so` in it and which
-begins with the magic number of ELF; links aren't followed. It counts what was printed and the causes of refusal.
-Where readelf is installed, soname, needed libraries and symbols of each printed text are compared with those that
-the rows of `readelf --dyn-syms` give by the rules of docs/format/interface.md, which are written here once more.
-With --segments a copy of each library is run too, whose header says that it has no section headers; its text is
-another one only where the library's hash table doesn't tell all its rows. The status is 1 where a text differs from
-what readelf says, or where a run ended otherwise than with a text or a line of refusal.
+It takes each file below the folders, by default the usual ones of libraries and those of Debian's cross packages,
+whose name has `.so` in it and which begins with the magic number of ELF; links aren't followed. It counts what was
+printed and the causes of refusal. Where readelf is installed, target, soname, needed libraries and symbols of each
+printed text are compared with what readelf says of the file, by the rules of docs/format/interface.md, which are
+written here once more. With --segments a copy of each library is run too, whose header says that it has no section
+headers. It has to give the same text, but where the library's only hash table, a GNU one, names no row and so
+doesn't tell how many there are. The status is 1 where something differs, or where a run ended otherwise than with a
+text or a line of refusal, and 77 where the built program is missing.
 """
 import argparse
 import collections
+import glob
 import itertools
 import os
 import re
 import shutil
+import struct
 import subprocess
 import sys
 import tempfile
@@ -24,7 +27,9 @@ from pathlib import Path
 
 TOP = Path(__file__).resolve().parent.parent
 FOLDERS = ["/lib", "/lib32", "/lib64", "/libx32", "/usr/lib", "/usr/lib32", "/usr/lib64", "/usr/libx32",
-           "/usr/local", "/opt"]
+           "/usr/local", "/opt", *sorted(glob.glob("/usr/*-linux-*/lib"))]
+ARCHITECTURES = {2: "sparc", 3: "i386", 8: "mips", 20: "ppc", 21: "ppc64", 22: "s390", 40: "arm", 43: "sparcv9",
+                 62: "x86_64", 183: "AArch64", 243: "riscv"}
 SHOWN = 20  # differences of one library that are shown
 
 
@@ -80,18 +85,20 @@ def symbol_of(line):
 
 
 def interface_of(text):
-    """What a text says: soname, needed libraries, symbols in their order."""
-    soname, needed, symbols, part = None, [], [], None
+    """What a text says: target, soname, needed libraries, symbols in their order."""
+    target, soname, needed, symbols, part = None, None, [], [], None
     for line in text.split("\n"):
         if line.startswith("SoName:"):
             soname = scalar(line[17:])
+        elif line.startswith("Target:"):
+            target = entries(line[17:])
         elif line.startswith(("NeededLibs:", "Symbols:")):
             part = line[:7]
         elif line.startswith("  - ") and part == "NeededL":
             needed.append(scalar(line[4:]))
         elif line.startswith("  - "):
             symbols.append(symbol_of(line))
-    return {"soname": soname, "needed": needed, "symbols": symbols}
+    return {"target": target, "soname": soname, "needed": needed, "symbols": symbols}
 
 
 # ---- the same by readelf
@@ -131,6 +138,16 @@ def described(rows):
     return kind, kept, not defined, weak if defined else all(row[4] for row in rows)
 
 
+def target_of(path):
+    """The target by the bytes of the file header."""
+    with open(path, "rb") as file:
+        head = file.read(20)
+    is_little = head[5] == 1
+    machine, = struct.unpack("<H" if is_little else ">H", head[18:])
+    return {"ObjectFormat": "ELF", "Arch": ARCHITECTURES.get(machine, f"EM_{machine}"),
+            "Endianness": "little" if is_little else "big", "BitWidth": "64" if head[4] == 2 else "32"}
+
+
 def by_readelf(path):
     rows = collections.defaultdict(list)
     for line in rows_told(path).split("\n"):
@@ -142,13 +159,13 @@ def by_readelf(path):
     sonames = re.findall(r"\(SONAME\)\s+Library soname: \[(.*)\]", dynamic)
     needed = re.findall(r"\(NEEDED\)\s+Shared library: \[(.*)\]", dynamic)
     symbols = [(name, described(rows[name])) for name in sorted(rows)]
-    return {"soname": sonames[0] if sonames and sonames[0] else None, "needed": [n for n in needed if n],
-            "symbols": symbols}
+    return {"target": target_of(path), "soname": sonames[0] if sonames and sonames[0] else None,
+            "needed": [name for name in needed if name], "symbols": symbols}
 
 
 def differences(own, other):
     """Each place where the two differ."""
-    for key in ("soname", "needed"):
+    for key in ("target", "soname", "needed"):
         if own[key] != other[key]:
             yield f"{key}: {own[key]!r}, by readelf {other[key]!r}"
     mine, theirs = dict(own["symbols"]), dict(other["symbols"])
@@ -168,7 +185,7 @@ class Tally:
     def __init__(self, args):
         self.args, self.compares = args, shutil.which("readelf") is not None
         self.printed, self.refused = 0, collections.Counter()
-        self.differing, self.wrong, self.otherwise = 0, 0, 0
+        self.differing, self.wrong, self.same_copies, self.uncounted = 0, 0, 0, 0
 
     def run(self, path):
         return subprocess.run([self.args.program, "stub", "--output-ifs=-", path], capture_output=True)
@@ -199,9 +216,14 @@ class Tally:
     def take_copy(self, path, copy, text):
         copy.write_bytes(without_sections(Path(path).read_bytes()))
         done = self.run(str(copy))
-        if done.stdout != text:
-            self.otherwise += 1
-            print(f"by segments: {path}: status {done.returncode}, {done.stdout.count(10)} lines for {text.count(10)}")
+        if done.stdout == text:
+            self.same_copies += 1
+        elif self.compares and counts_no_row(path, text):
+            self.uncounted += 1
+        else:
+            self.differing += 1
+            lines = f"{done.stdout.count(10)} lines for {text.count(10)}"
+            print(f"differs: {path}: by segments status {done.returncode}, {lines}")
 
     def told(self):
         yield f"{self.printed} printed, {sum(self.refused.values())} refused, {self.wrong} ended otherwise"
@@ -209,7 +231,15 @@ class Tally:
             yield f"  {count} {cause}"
         yield f"{self.differing} differ from readelf" if self.compares else "no readelf to compare with"
         if self.args.segments:
-            yield f"{self.otherwise} have another text by segments"
+            yield (f"{self.same_copies} have the same text by segments, "
+                   f"{self.uncounted} no hash table that counts their rows")
+
+
+def counts_no_row(path, text):
+    """Whether the only hash table is a GNU one that names no row: nothing is defined."""
+    dynamic = readelf(path, "--dynamic")
+    defines = any(not symbol[2] for _, symbol in interface_of(text.decode("latin-1"))["symbols"])
+    return "(GNU_HASH)" in dynamic and "(HASH)" not in dynamic and not defines
 
 
 def without_sections(data):
@@ -237,6 +267,9 @@ def words():
 
 def main():
     args = words()
+    if not os.access(args.program, os.X_OK):
+        print(f"{args.program} isn't there: build it first", file=sys.stderr)
+        return 77
     tally = Tally(args)
     with tempfile.TemporaryDirectory() as folder:
         for path in itertools.islice(libraries(args.folders), args.most):
