@@ -312,3 +312,48 @@ fn writes_that_fail(rt: HostRuntime) -> Result<(), Fail> {
     }
     Ok(())
 }
+
+// Whether a run of the words with the fixture writes its stub to `o`, and this on standard output.
+fn writes_stub(alloc: Global, words: &[&str], printed: &[u8]) -> Result<bool, Memory> {
+    let words = owned(alloc, words)?;
+    let mut input = MemorySource::new(Vec::new(alloc), Vec::new(alloc));
+    let mut files = MemoryFiles::new(alloc, Vec::new(alloc));
+    files.put(b"F", LIBRARY)?;
+    let mut out = MemorySink::new(alloc, Vec::new(alloc));
+    let mut err = MemorySink::new(alloc, Vec::new(alloc));
+    let status = run(alloc, &words, &mut input, &mut files, &mut out, &mut err);
+    if status == 5 {
+        return Err(Memory);
+    }
+    Ok(
+        status == 0
+            && files.get(b"o") == Some(STUB)
+            && files.writes() == 1
+            && out.written() == printed
+            && err.written().is_empty(),
+    )
+}
+
+#[test]
+fn stub_files(rt: HostRuntime) -> Result<(), Fail> {
+    let alloc = rt.alloc();
+    let mut text = Vec::from_slice(alloc, START)?;
+    text.extend_from_slice(SYMBOLS)?;
+    text.extend_from_slice(END)?;
+    assert!(rt; writes_stub(alloc, &["stub", "--output-elf=o", "F"], b"")?);
+    assert!(rt;
+        writes_stub(
+            alloc,
+            &["stub", "--output-elf=o", "--output-ifs=-", "F"],
+            &text
+        )?
+    );
+    assert!(rt;
+        writes_stub(
+            alloc,
+            &["stub", "--output-ifs=-", "--output-elf=o", "F"],
+            &text
+        )?
+    );
+    Ok(())
+}
