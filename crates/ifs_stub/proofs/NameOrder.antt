@@ -43,7 +43,7 @@ before_later n a b h g = by (same_name b a) refl
     by true e = subst (λ m. comes_before n m ≡ true) (sym (same_name-is b a e)) h
     by false e = before_trans n a b h (before_of_rest a b (not-true (comes_before b a) g) e)
 
-equal_ties : (o : Ordering) → is_eq o ≡ (not (is_lt (ordering_reverse o)) && not (is_lt o))
+pub equal_ties : (o : Ordering) → is_eq o ≡ (not (is_lt (ordering_reverse o)) && not (is_lt o))
 equal_ties Less = refl
 equal_ties Equal = refl
 equal_ties Greater = refl

@@ -7,6 +7,7 @@ ghost use Rattle.ifs_interface.specs.Interface.{ascends, is_proper_name, names_o
 ghost use Rattle.ifs_stub.specs.Rows.{pointed, run_length, symbols_by_name, AreInNameOrder, IsSortedByName};
 
 use crate::described::described;
+use crate::ranked::{compare, usual_front, with_ranks};
 use ifs_bytes::Memory;
 use ifs_interface::{DynRow, Symbol};
 use std::alloc::Global;
@@ -15,9 +16,9 @@ use std::alloc::Global;
 fn sorted_by_name(alloc: Global, rows: &[DynRow]) -> Result<Vec<&DynRow>, Memory>
     ensures { IfOk result (λ sorted. IsSortedByName rows.now sorted.items) }
 {
-    let mut sorted: Vec<&DynRow> = rows.iter().collect(alloc)?;
-    sorted.sort_by(|a, b| a.name.cmp(&b.name))?;
-    Ok(sorted)
+    let mut sorted = with_ranks(alloc, usual_front(rows), rows)?;
+    sorted.sort_by(|a, b| compare(a, b))?;
+    Ok(sorted.iter().map(|ranked| ranked.row).collect(alloc)?)
 }
 
 // How many rows at the front have the name of the first.

@@ -8,6 +8,7 @@
 mod collapse;
 mod described;
 mod interface;
+mod ranked;
 
 pub use collapse::symbols_of;
 pub use interface::extract;
