@@ -80,10 +80,10 @@ fn common_front<'a>(one: &'a [u8], other: &[u8]) -> &'a [u8] {
     one
 }
 
-// The bytes that names from all over the rows begin with, 32 at most. The order of the rows doesn't depend on
-// them: the closer they are, the fewer names share a rank.
+// The bytes that up to eight names, from all over the rows, have in common at the front. The order of the rows
+// doesn't depend on them: the longer they are, the fewer names share a rank.
 pub(crate) fn usual_front(rows: &[DynRow]) -> &[u8] {
-    let apart = rows.len() / 32 + 1;
+    let apart = rows.len() / 8 + 1;
     match rows.get(apart / 2) {
         Some(row) => rows
             .iter()

@@ -256,7 +256,9 @@ fn words_that_are_refused(rt: HostRuntime) -> Result<(), Fail> {
         &["stub", "F", "--output-ifs=-"],
         &["stub", "--output-ifs=-", "-"],
         &["stub", "--output-ifs=-", "--output-ifs=-"],
-        &["stub", "--output-ifs=G", "F"],
+        &["stub", "--output-ifs=", "F"],
+        &["stub", "--output-ifs=G", "--output-elf=G", "F"],
+        &["stub", "--output-ifs=G", "--output-ifs=H", "F"],
         &["stubs", "--output-ifs=-", "F"],
         &["stub", "--output-ifs=-", "F", "F"],
     ] {
