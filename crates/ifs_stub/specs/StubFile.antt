@@ -3,13 +3,13 @@
 -- "Hash Table"). Its parts stand in the order file header, program headers, .dynsym, .dynstr, .hash,
 -- .dynamic, .shstrtab, section headers. .dynsym, .hash, .dynamic and the section headers start at multiples of
 -- a word; what is between two parts is zero, and an address is the offset in the file.
-use Rattle.std.specs.Prelude.{ℕ, ◌+◌, ◌-◌, ◌*◌, ◌%◌, ◌==◌, ◌||◌, if◌then◌else◌, Bool, List, [], ◌∷◌, ◌++◌, length, map, codes, replicate, unwrap_or, Option, Some, None, sum_by}
+use Rattle.std.specs.Prelude.{ℕ, ◌+◌, ◌-◌, ◌*◌, ◌%◌, ◌==◌, ◌||◌, if◌then◌else◌, Bool, List, [], ◌∷◌, ◌++◌, length, codes, replicate, unwrap_or, Option, Some, None, sum_by}
 use Rattle.std.specs.List.{flat_map}
 use Rattle.ifs_bytes.specs.Field.{word_size, number_bytes}
 use Rattle.ifs_bytes.specs.Places.{places}
 use Rattle.ifs_bytes.specs.declared.form.Order.{Order}
 use Rattle.ifs_bytes.specs.declared.form.Width.{Width}
-use Rattle.elf_file.specs.Tables.{header_size, segment_size, section_size, symbol_size, dynamic_size}
+use Rattle.elf_file.specs.Tables.{header_size, segment_size, symbol_size, dynamic_size}
 use Rattle.elf_file.specs.Written.{header_bytes, segment_bytes, symbol_bytes, dynamic_bytes, section_bytes}
 use Rattle.elf_file.specs.declared.header.Header.{Header}
 use Rattle.elf_file.specs.declared.segment.Segment.{Segment}

@@ -1,4 +1,4 @@
-//! The command `stub`: a library's interface as a text.
+//! The command `stub`: a library's interface as a text and as a stub library.
 
 ghost use Rattle.std.specs.Prelude.{◌≡◌, ◌<◌, ◌++◌, IfOk, OnOk, Result};
 ghost use Rattle.elf_dyn.specs.Library.{library_of};

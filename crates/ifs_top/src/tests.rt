@@ -359,3 +359,85 @@ fn stub_files(rt: HostRuntime) -> Result<(), Fail> {
     );
     Ok(())
 }
+
+// What a run with two outputs meets and leaves: the calls of the files and of standard output that fail, whether
+// the text and the stub are held at `t` and `o`, and what is on standard error.
+#[derive(Clone, Copy)]
+struct Outputs<'a> {
+    words: [&'a str; 2],
+    files: &'a [u64],
+    out: &'a [u64],
+    text: bool,
+    stub: bool,
+    err: &'a [u8],
+}
+
+// Whether a run with these two outputs ends so, with status 4.
+fn leaves(alloc: Global, outputs: Outputs, text: &[u8]) -> Result<bool, Memory> {
+    let words = owned(alloc, &["stub", outputs.words[0], outputs.words[1], "F"])?;
+    let mut input = MemorySource::new(Vec::new(alloc), Vec::new(alloc));
+    let mut files = MemoryFiles::new(alloc, Vec::from_slice(alloc, outputs.files)?);
+    files.put(b"F", LIBRARY)?;
+    files.put(b"kept", b"old")?;
+    let mut out = MemorySink::new(alloc, Vec::from_slice(alloc, outputs.out)?);
+    let mut err = MemorySink::new(alloc, Vec::new(alloc));
+    let status = run(alloc, &words, &mut input, &mut files, &mut out, &mut err);
+    if status == 5 {
+        return Err(Memory);
+    }
+    let held = |yes: bool, bytes| if yes { Some(bytes) } else { None };
+    Ok(
+        status == 4
+            && files.get(b"t") == held(outputs.text, text)
+            && files.get(b"o") == held(outputs.stub, STUB)
+            && files.get(b"F") == Some(LIBRARY.as_slice())
+            && files.get(b"kept") == Some(b"old".as_slice())
+            && out.written().is_empty()
+            && err.written() == outputs.err,
+    )
+}
+
+#[test]
+fn outputs_that_fail(rt: HostRuntime) -> Result<(), Fail> {
+    let alloc = rt.alloc();
+    let mut text = Vec::from_slice(alloc, START)?;
+    text.extend_from_slice(SYMBOLS)?;
+    text.extend_from_slice(END)?;
+    // The read of `F` is call 0 of the files.
+    let two = ["--output-elf=o", "--output-ifs=t"];
+    for (words, files, out, held, err) in [
+        (
+            two,
+            [1].as_slice(),
+            [].as_slice(),
+            (false, false),
+            b"error: t: write failed\n".as_slice(),
+        ),
+        (two, &[2], &[], (true, false), b"error: o: write failed\n"),
+        (
+            ["--output-elf=o", "--output-ifs=-"],
+            &[],
+            &[0],
+            (false, false),
+            b"error: -: write failed\n",
+        ),
+        (
+            ["--output-elf=-", "--output-ifs=t"],
+            &[],
+            &[0],
+            (true, false),
+            b"error: -: write failed\n",
+        ),
+    ] {
+        let outputs = Outputs {
+            words,
+            files,
+            out,
+            text: held.0,
+            stub: held.1,
+            err,
+        };
+        assert!(rt; leaves(alloc, outputs, &text)?);
+    }
+    Ok(())
+}

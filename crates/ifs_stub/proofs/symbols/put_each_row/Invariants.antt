@@ -1,4 +1,4 @@
-use Rattle.std.proofs.Common.{◌≡◌, ◌+◌, ◌≤◌, Bool, false, length, drop, ◌++◌}
+use Rattle.std.proofs.Common.{◌≡◌, ◌+◌, ◌≤◌, false, length, drop, ◌++◌}
 use Rattle.std.specs.List.{list_any}
 use Rattle.ifs_stub.specs.StubFile.{rows_bytes, rows_from, symbol_name_bytes}
 use Rattle.ifs_stub.specs.Stub.{is_too_wide}
