@@ -19,7 +19,6 @@ import itertools
 import os
 import re
 import shutil
-import struct
 import subprocess
 import sys
 import tempfile
@@ -28,8 +27,9 @@ from pathlib import Path
 TOP = Path(__file__).resolve().parent.parent
 FOLDERS = ["/lib", "/lib32", "/lib64", "/libx32", "/usr/lib", "/usr/lib32", "/usr/lib64", "/usr/libx32",
            "/usr/local", "/opt", *sorted(glob.glob("/usr/*-linux-*/lib"))]
-ARCHITECTURES = {2: "sparc", 3: "i386", 8: "mips", 20: "ppc", 21: "ppc64", 22: "s390", 40: "arm", 43: "sparcv9",
-                 62: "x86_64", 183: "AArch64", 243: "riscv"}
+MACHINES = {"AArch64": "AArch64", "ARM": "arm", "Advanced Micro Devices X86-64": "x86_64", "IBM S/390": "s390",
+            "Intel 80386": "i386", "MIPS R3000": "mips", "PowerPC": "ppc", "PowerPC64": "ppc64", "RISC-V": "riscv",
+            "Sparc": "sparc", "Sparc v9": "sparcv9"}
 SHOWN = 20  # differences of one library that are shown
 
 
@@ -139,13 +139,12 @@ def described(rows):
 
 
 def target_of(path):
-    """The target by the bytes of the file header."""
-    with open(path, "rb") as file:
-        head = file.read(20)
-    is_little = head[5] == 1
-    machine, = struct.unpack("<H" if is_little else ">H", head[18:])
-    return {"ObjectFormat": "ELF", "Arch": ARCHITECTURES.get(machine, f"EM_{machine}"),
-            "Endianness": "little" if is_little else "big", "BitWidth": "64" if head[4] == 2 else "32"}
+    """The target by the file header."""
+    told = dict(re.findall(r"^  (Class|Data|Machine):\s+(.*)$", readelf(path, "-h"), re.M))
+    number = re.search(r"<unknown>: 0x([0-9a-f]+)", told["Machine"])
+    arch = f"EM_{int(number[1], 16)}" if number else MACHINES.get(told["Machine"], told["Machine"])
+    return {"ObjectFormat": "ELF", "Arch": arch, "Endianness": "little" if "little" in told["Data"] else "big",
+            "BitWidth": told["Class"].removeprefix("ELF")}
 
 
 def by_readelf(path):
