@@ -1,7 +1,7 @@
 #!/usr/bin/env python3
 """Runs the built `ifs` over the shared libraries of this system, and compares its texts with what readelf says.
 
-    scripts/try_system.py [--program PATH] [--most COUNT] [--segments] [FOLDER ..]
+    scripts/try_system.py [--program PATH] [--most COUNT] [--segments] [--stubs] [FOLDER ..]
 
 It takes each file below the folders, by default the usual ones of libraries and those of Debian's cross packages,
 whose name has `.so` in it and which begins with the magic number of ELF; links aren't followed. It counts what was
@@ -9,7 +9,8 @@ printed and the causes of refusal. Where readelf is installed, target, soname, n
 printed text are compared with what readelf says of the file, by the rules of docs/format/interface.md, which are
 written here once more. With --segments a copy of each library is run too, whose header says that it has no section
 headers. It has to give the same text, but where the library's only hash table, a GNU one, names no row and so
-doesn't tell how many there are. The status is 1 where something differs, or where a run ended otherwise than with a
+doesn't tell how many there are. With --stubs the stub of each library is written and read. It has to give the same
+text, but for the types that a stub doesn't tell. The status is 1 where something differs, or where a run ended otherwise than with a
 text or a line of refusal, and 77 where the built program is missing.
 """
 import argparse
@@ -184,7 +185,7 @@ class Tally:
     def __init__(self, args):
         self.args, self.compares = args, shutil.which("readelf") is not None
         self.printed, self.refused = 0, collections.Counter()
-        self.differing, self.wrong, self.same_copies, self.uncounted = 0, 0, 0, 0
+        self.differing, self.wrong, self.same_copies, self.uncounted, self.same_stubs = 0, 0, 0, 0, 0
 
     def run(self, path):
         return subprocess.run([self.args.program, "stub", "--output-ifs=-", path], capture_output=True)
@@ -196,6 +197,8 @@ class Tally:
             self.take_text(path, done.stdout)
             if self.args.segments:
                 self.take_copy(path, copy, done.stdout)
+            if self.args.stubs:
+                self.take_stub(path, copy, done.stdout)
         elif done.returncode in (1, 3) and not done.stdout:
             cause = cause_of(done.stderr, path)
             self.refused[cause] += 1
@@ -224,6 +227,15 @@ class Tally:
             lines = f"{done.stdout.count(10)} lines for {text.count(10)}"
             print(f"differs: {path}: by segments status {done.returncode}, {lines}")
 
+    def take_stub(self, path, copy, text):
+        written = subprocess.run([self.args.program, "stub", f"--output-elf={copy}", path], capture_output=True)
+        done = self.run(str(copy))
+        if written.returncode == 0 and done.stdout == text.replace(b", Type: Unknown", b", Type: NoType"):
+            self.same_stubs += 1
+        else:
+            self.differing += 1
+            print(f"differs: {path}: by its stub, {written.stderr!r}, {done.stderr!r}")
+
     def told(self):
         yield f"{self.printed} printed, {sum(self.refused.values())} refused, {self.wrong} ended otherwise"
         for cause, count in self.refused.most_common():
@@ -232,6 +244,8 @@ class Tally:
         if self.args.segments:
             yield (f"{self.same_copies} have the same text by segments, "
                    f"{self.uncounted} no hash table that counts their rows")
+        if self.args.stubs:
+            yield f"{self.same_stubs} have the same text by their stubs"
 
 
 def counts_no_row(path, text):
@@ -260,6 +274,7 @@ def words():
     parser.add_argument("--program", default=str(TOP / "crates/ifs/out/ifs"), help="the built program")
     parser.add_argument("--most", type=int, help="stop after that many libraries")
     parser.add_argument("--segments", action="store_true", help="run a copy without section headers too")
+    parser.add_argument("--stubs", action="store_true", help="write and read the stub of each library too")
     parser.add_argument("folders", nargs="*", default=FOLDERS, metavar="FOLDER")
     return parser.parse_args()
 
