@@ -1,0 +1,183 @@
+//! The cutter, which goes over the bytes of a text once and gives its pieces.
+
+ghost use Rattle.std.specs.Prelude.{◌≡◌, ◌*◌, ◌<◌, ◌∷◌, [], true, Some, length};
+ghost use Rattle.yaml_tokens.specs.Pieces.{class_of};
+ghost use Rattle.yaml_tokens.specs.declared.piece.Class.TheVariants as class;
+
+use crate::byte::is_blank;
+use crate::front::front_of;
+use crate::line::{begins_document, behind_line, ends_document, is_skipped, line_size};
+use crate::piece::{Before, Class, Kind, Piece};
+use std::marker::Model;
+
+/// A place in a text: what is left of its line, and the text behind that line.
+#[derive(Drop)]
+pub struct Cutter<'a> {
+    line: &'a [u8],
+    // the offset of the line, and how many of its bytes were cut
+    line_at: usize,
+    column: usize,
+    // the line's start or a blank stands before
+    fresh: bool,
+    after: &'a [u8],
+    after_at: usize,
+    before: Before,
+}
+
+impl<'a> Model for Cutter<'a> {
+    ghost use Rattle.std.specs.Prelude.{length};
+    ghost use Rattle.yaml_tokens.specs.Places.{Place, Fits};
+
+    ghost Value = { Place };
+
+    ghost view = { λ c. record {
+        line = c.line.now; line_at = c.line_at; column = c.column; fresh = c.fresh;
+        after = c.after.now; after_at = c.after_at; before = c.before } };
+
+    ghost invariant = { λ c. Fits c.before c.line_at c.column (length c.line.now) c.after_at (length c.after.now) };
+}
+
+impl<'a> Cutter<'a> {
+    ghost use Rattle.yaml_tokens.specs.Pieces.{pieces_of};
+    ghost use Rattle.yaml_tokens.specs.Places.{left, work, begins_piece, Cuts, CutsLine, OpensLine, Skips};
+
+    /// The place before a text.
+    #[tactic(auto, unfolding(crate::specs::Places::left))]
+    pub fn new(text: &'a [u8]) -> Cutter<'a>
+        ensures left { left result ≡ pieces_of text.now }
+        ensures work { work result ≡ 2 * length text.now }
+    {
+        Cutter {
+            line: &[],
+            line_at: 0,
+            column: 0,
+            fresh: true,
+            after: text,
+            after_at: 0,
+            before: Before {
+                inside: false,
+                opened: 0,
+                closed: 0,
+                quoted: false,
+            },
+        }
+    }
+
+    /// The next piece of the text; None exactly where there is no more.
+    pub fn next(&mut self) -> Option<Piece<'a>>
+        ensures { Cuts result self.old self.new }
+    {
+        loop {
+            if let Some(piece) = self.cut_line() {
+                return Some(piece);
+            }
+            if self.after.is_empty() {
+                return None;
+            }
+            if let Some(piece) = self.open_line() {
+                return Some(piece);
+            }
+        }
+    }
+
+    // The next piece of the line; None exactly where there is no more.
+    fn cut_line(&mut self) -> Option<Piece<'a>>
+        ensures { CutsLine result self.old self.new }
+    {
+        self.skip();
+        match self.line {
+            [] => None,
+            [byte, rest @ ..] => Some(self.take(*byte, rest)),
+        }
+    }
+
+    // Goes on to the next byte of the line that begins a piece, or to the line's end.
+    fn skip(&mut self)
+        ensures { Skips self.old self.new }
+    {
+        while let [byte, rest @ ..] = self.line {
+            if *byte == b'#' && self.fresh {
+                self.line = &[];
+                return;
+            }
+            if !is_blank(*byte) {
+                return;
+            }
+            self.line = rest;
+            self.column += 1;
+            self.fresh = true;
+        }
+    }
+
+    // Cuts the piece that a byte begins, which `rest` follows on the line.
+    #[tactic(auto, unfolding(crate::specs::Places::left))]
+    fn take(&mut self, byte: u8, rest: &'a [u8]) -> Piece<'a>
+        requires line { self.old.line ≡ byte ∷ rest.now }
+        requires begins { begins_piece self.old.fresh self.old.line ≡ true }
+        ensures { Cuts (Some result) self.old self.new }
+    {
+        let found = front_of(self.before, byte, rest);
+        let (bytes, line) = self.line.split_at(found.size + 1);
+        let piece = Piece::new(self.line_at, self.column, found.kind, bytes);
+        self.before = self.before.after(found.kind);
+        self.fresh = found.ends_blank();
+        self.column += bytes.len();
+        self.line = line;
+        piece
+    }
+
+    // Opens the next line, whose indentation or whole may be a piece.
+    #[tactic(auto, unfolding(crate::specs::Places::left))]
+    fn open_line(&mut self) -> Option<Piece<'a>>
+        requires line { self.old.line ≡ [] }
+        requires after { 0 < length self.old.after }
+        ensures { OpensLine result self.old self.new }
+    {
+        let (line, _) = self.after.split_at(line_size(self.after));
+        let rest = behind_line(self.after);
+        self.line_at = self.after_at;
+        self.column = 0;
+        self.fresh = true;
+        self.after_at += self.after.len() - rest.len();
+        self.after = rest;
+        match class_of(self.before, line) {
+            Class::Begins => Some(self.mark(Kind::Begin, line)),
+            Class::Skipped => None,
+            Class::Stray => Some(Piece::indentation(Kind::Stray, self.line_at, line)),
+            Class::Ends => Some(self.mark(Kind::End, line)),
+            Class::Body => {
+                self.line = line;
+                if self.before.in_flow() {
+                    None
+                } else {
+                    Some(Piece::indentation(Kind::Line, self.line_at, line))
+                }
+            }
+        }
+    }
+
+    // Takes the line as one piece.
+    fn mark(&mut self, kind: Kind, line: &'a [u8]) -> Piece<'a> {
+        self.before = self.before.after(kind);
+        Piece::new(self.line_at, 0, kind, line)
+    }
+}
+
+// What a line is, by what stands before it.
+#[tactic(auto, unfolding(crate::specs::Pieces::class_of))]
+fn class_of(before: Before, line: &[u8]) -> Class
+    ensures class { result ≡ class_of before line.now }
+    ensures body { result ≡ class.Body → 0 < length line.now }
+{
+    if begins_document(line) {
+        Class::Begins
+    } else if is_skipped(line) {
+        Class::Skipped
+    } else if !before.inside {
+        Class::Stray
+    } else if ends_document(line) {
+        Class::Ends
+    } else {
+        Class::Body
+    }
+}
