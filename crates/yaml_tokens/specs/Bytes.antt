@@ -1,7 +1,6 @@
 -- Bytes of a line, and what they may begin (YAML 1.2, "Character Productions").
-use Rattle.std.specs.Prelude.{ℕ, Bool, true, false, ◌||◌, ◌&&◌, not, ◌==◌, List, [], ◌∷◌, nat_lt, if◌then◌else◌}
+use Rattle.std.specs.Prelude.{ℕ, ◌+◌, Bool, true, false, ◌||◌, ◌&&◌, not, ◌==◌, List, [], ◌∷◌, nat_lt, if◌then◌else◌}
 use Rattle.std.specs.Str.{byte}
-use Rattle.std.specs.List.{position_or_len}
 
 -- a blank is a space or a tab
 unfoldable pub is_blank : ℕ → Bool
@@ -14,7 +13,8 @@ begins test (b ∷ rest) = test b
 
 -- how many blanks stand at the front
 abbrev pub blanks : List ℕ → ℕ
-blanks z = position_or_len (λ b. not (is_blank b)) z
+blanks [] = 0
+blanks (b ∷ rest) = if is_blank b then 1 + blanks rest else 0
 
 unfoldable pub is_quote : ℕ → Bool
 is_quote b = b == byte "'" || b == byte "\""

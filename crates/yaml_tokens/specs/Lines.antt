@@ -2,17 +2,21 @@
 -- "Comments", "Document Markers"). A line ends before LF, before CR and LF, or where the text ends.
 use Rattle.std.specs.Prelude.{ℕ, ◌+◌, Bool, true, false, ◌||◌, ◌&&◌, not, ◌==◌, List, [], ◌∷◌, ◌++◌, length, take, drop, nat_le, Option, Some, None, is_some, codes, nat_eq, if◌then◌else◌}
 use Rattle.std.specs.Str.{byte}
-use Rattle.std.specs.List.{position_or_len, starts_with}
+use Rattle.std.specs.List.{starts_with}
 use Rattle.yaml_tokens.specs.Bytes.{is_blank, begins, blanks}
 
 -- a line ends before these bytes
 unfoldable pub line_ends : ℕ → List ℕ → Bool
 line_ends b rest = b == 10 || b == 13 && begins (λ c. c == 10) rest
 
--- the bytes up to the end of the line
+-- how many bytes stand before the end of the line
+abbrev pub line_size : List ℕ → ℕ
+line_size [] = 0
+line_size (b ∷ rest) = if line_ends b rest then 0 else 1 + line_size rest
+
+-- the bytes of the line at the front
 abbrev pub line : List ℕ → List ℕ
-line [] = []
-line (b ∷ rest) = if line_ends b rest then [] else b ∷ line rest
+line z = take (line_size z) z
 
 -- a line, and the offset of its first byte
 pub record Line : Type 0 where
@@ -40,12 +44,16 @@ abbrev pub ends_idle : List ℕ → Bool
 ends_idle [] = true
 ends_idle (b ∷ rest) = is_blank b && skipped rest
 
--- the bytes up to a blank
+-- how many bytes stand before a blank
+abbrev pub word_size : List ℕ → ℕ
+word_size [] = 0
+word_size (b ∷ rest) = if is_blank b then 0 else 1 + word_size rest
+
 abbrev pub word : List ℕ → List ℕ
-word z = take (position_or_len is_blank z) z
+word z = take (word_size z) z
 
 abbrev pub behind_word : List ℕ → List ℕ
-behind_word z = drop (position_or_len is_blank z) z
+behind_word z = drop (word_size z) z
 
 -- a tag is `!` and more bytes that aren't blank, and nothing but blanks and a comment may follow it
 abbrev pub is_tag : List ℕ → List ℕ → Bool

@@ -3,6 +3,7 @@
 -- piece of its own.
 use Rattle.std.specs.Prelude.{ℕ, zero, suc, ◌+◌, Bool, true, false, ◌||◌, ◌&&◌, not, ◌==◌, nat_lt, List, [], ◌∷◌, ◌++◌, length, take, Option, Some, None, if◌then◌else◌}
 use Rattle.std.specs.Str.{byte}
+use Rattle.std.specs.Option.{option_to_list}
 use Rattle.yaml_tokens.specs.Bytes.{is_blank, begins, blanks, is_quote, is_open, is_close, is_left_out}
 use Rattle.yaml_tokens.specs.Lines.{Line, lines, skipped, begins_document, ends_document}
 use Rattle.yaml_tokens.specs.Scalars.{begins_plain, plain_size, single_size, double_size}
@@ -56,7 +57,7 @@ closed_by kind (Some size) rest = record { kind = kind; size = size }
 closed_by kind None rest = record { kind = Unclosed; size = length rest }
 
 unfoldable pub quoted_front : ℕ → List ℕ → Front
-quoted_front b rest = if b == byte "'" then closed_by Single (single_size rest) rest else closed_by Double (double_size rest) rest
+quoted_front b rest = if b == byte "'" then closed_by Single (single_size false rest) rest else closed_by Double (double_size false rest) rest
 
 -- in flow a `:` behind a scalar in quotes always parts a key and its value; another `:` that begins no plain
 -- scalar does so except in flow directly before a bracket that opens
@@ -114,11 +115,6 @@ cut zero fresh before at column (b ∷ rest) =
     else front_piece (front before b rest) at column b rest
         ∷ cut (front before b rest).size (is_dash (front before b rest)) (after before (front before b rest).kind) at (column + 1) rest)
 
--- a line of a document
-abbrev pub body : Before → Line → List PieceRecord
-body before l =
-    (if in_flow before then [] else (indentation Indent l ∷ [])) ++ cut zero true before l.at 0 l.bytes
-
 -- what a line is, by what stands before it
 unfoldable pub class_of : Before → List ℕ → Class
 class_of before z =
@@ -128,15 +124,25 @@ class_of before z =
     else (if ends_document z then Ends
     else Body)))
 
-abbrev pub pieces_by : Class → Before → Line → List PieceRecord
-pieces_by Begins before l = whole Begin l ∷ []
-pieces_by Skipped before l = []
-pieces_by OutsideLine before l = indentation Stray l ∷ []
-pieces_by Ends before l = whole End l ∷ []
-pieces_by Body before l = body before l
+-- the piece that a line opens with: itself or its indentation
+abbrev pub opening : Class → Before → Line → Option PieceRecord
+opening Begins before l = Some (whole Begin l)
+opening Skipped before l = None
+opening OutsideLine before l = Some (indentation Stray l)
+opening Ends before l = Some (whole End l)
+opening Body before l = if in_flow before then None else Some (indentation Indent l)
+
+-- what of a line is cut
+abbrev pub content : Class → List ℕ → List ℕ
+content Begins z = []
+content Skipped z = []
+content OutsideLine z = []
+content Ends z = []
+content Body z = z
 
 abbrev pub line_pieces : Before → Line → List PieceRecord
-line_pieces before l = pieces_by (class_of before l.bytes) before l
+line_pieces before l =
+    option_to_list (opening (class_of before l.bytes) before l) ++ cut zero true before l.at 0 (content (class_of before l.bytes) l.bytes)
 
 abbrev pub pieces : Before → List Line → List PieceRecord
 pieces before [] = []

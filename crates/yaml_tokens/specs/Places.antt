@@ -3,8 +3,11 @@ use Rattle.std.specs.Prelude.{◌≡◌, ℕ, zero, ◌+◌, ◌*◌, ◌<◌, �
 use Rattle.std.specs.Str.{byte}
 use Rattle.yaml_tokens.specs.Bytes.{is_blank}
 use Rattle.yaml_tokens.specs.Lines.{Line, lines}
-use Rattle.yaml_tokens.specs.Pieces.{PieceRecord, cut, after_all, pieces}
+use Rattle.yaml_tokens.specs.Pieces.{PieceRecord, cut, after, after_all, pieces}
 use Rattle.yaml_tokens.specs.declared.piece.Before.{Before}
+use Rattle.yaml_tokens.specs.declared.piece.Kind.TheVariants.{Begin, End}
+use Rattle.yaml_tokens.specs.declared.piece.Class.{Class}
+use Rattle.yaml_tokens.specs.declared.piece.Class.TheVariants.{Begins, Skipped, Stray as OutsideLine, Ends, Body}
 
 -- a place: what is left of its line, of which column bytes were cut, and the text behind that line
 pub record Place : Type 0 where
@@ -34,6 +37,19 @@ left p = continued p.before (cut zero p.fresh p.before p.line_at p.column p.line
 -- how much there is left to do
 abbrev pub work : Place → ℕ
 work p = length p.line + 2 * length p.after
+
+-- what stands before the content of a line
+abbrev pub opened : Class → Before → Before
+opened Begins before = after before Begin
+opened Skipped before = before
+opened OutsideLine before = before
+opened Ends before = after before End
+opened Body before = before
+
+-- the rest of a line from the next byte on that begins a piece
+abbrev pub passed : Bool → List ℕ → List ℕ
+passed fresh [] = []
+passed fresh (b ∷ rest) = if is_blank b then passed true rest else (if b == byte "#" && fresh then [] else b ∷ rest)
 
 -- a byte of the line, which fresh says is behind a blank or at the line's start, begins a piece
 abbrev pub begins_piece : Bool → List ℕ → Bool

@@ -34,32 +34,36 @@ plain_size flow [] = 0
 plain_size flow (b ∷ rest) =
     if ends_plain flow b rest then 0 else (if is_blank b && plain_size flow rest == 0 then 0 else 1 + plain_size flow rest)
 
--- how many bytes stand up to a closing single quote, that one included; two quotes together close nothing
-abbrev pub single_size : List ℕ → Option ℕ
-single_size [] = None
-single_size (b ∷ []) = if b == byte "'" then Some 1 else None
-single_size (b ∷ c ∷ rest) =
-    if b == byte "'"
-    then (if c == byte "'" then option_map (λ n. 2 + n) (single_size rest) else Some 1)
-    else option_map (λ n. 1 + n) (single_size (c ∷ rest))
+-- how many bytes stand up to a closing single quote, that one included, where the first byte may be taken
+-- by a quote before it: of two quotes together neither closes
+abbrev pub closes_single : Bool → ℕ → List ℕ → Bool
+closes_single taken b rest = b == byte "'" && not taken && not (begins (λ c. c == byte "'") rest)
 
--- how many bytes stand up to a closing double quote, that one included; a backslash takes a byte with it
-abbrev pub double_size : List ℕ → Option ℕ
-double_size [] = None
-double_size (b ∷ []) = if b == byte "\"" then Some 1 else None
-double_size (b ∷ c ∷ rest) =
-    if b == byte "\"" then Some 1
-    else (if b == byte "\\" then option_map (λ n. 2 + n) (double_size rest) else option_map (λ n. 1 + n) (double_size (c ∷ rest)))
+abbrev pub single_size : Bool → List ℕ → Option ℕ
+single_size taken [] = None
+single_size taken (b ∷ rest) =
+    if closes_single taken b rest then Some 1
+    else option_map (λ n. 1 + n) (single_size (b == byte "'" && not taken) rest)
+
+-- how many bytes stand up to a closing double quote, that one included, where the first byte may be taken
+-- by a backslash before it
+abbrev pub double_size : Bool → List ℕ → Option ℕ
+double_size taken [] = None
+double_size taken (b ∷ rest) =
+    if b == byte "\"" && not taken then Some 1
+    else option_map (λ n. 1 + n) (double_size (b == byte "\\" && not taken) rest)
 
 -- the bytes between the quotes
 abbrev pub within : List ℕ → List ℕ
 within z = take (length z - 2) (drop 1 z)
 
 -- the text between single quotes: of two quotes together the second is left out
+abbrev pub kept : Bool → ℕ → List ℕ
+kept left_out b = if left_out then [] else b ∷ []
+
 abbrev pub undoubled : Bool → List ℕ → List ℕ
 undoubled second [] = []
-undoubled second (b ∷ rest) =
-    if b == byte "'" && second then undoubled false rest else b ∷ undoubled (b == byte "'") rest
+undoubled second (b ∷ rest) = kept (b == byte "'" && second) b ++ undoubled (b == byte "'" && not second) rest
 
 -- the bytes that an escape takes behind its backslash, and what they stand for
 abbrev pub escape_size : Option Escape → ℕ
@@ -70,18 +74,26 @@ abbrev pub escape_text : Option Escape → List ℕ
 escape_text None = []
 escape_text (Some e) = encode_utf8 e.character
 
--- the text between double quotes, where escaped bytes at the front belong to an escape
+-- a byte between double quotes, or the escape that it begins: what it stands for, and how many bytes more
+-- belong to it
+unfoldable pub next_text : ℕ → List ℕ → List ℕ
+next_text b rest = if b == byte "\\" then escape_text (escape rest) else b ∷ []
+
+unfoldable pub next_size : ℕ → List ℕ → ℕ
+next_size b rest = if b == byte "\\" then escape_size (escape rest) else 0
+
+-- the text between double quotes, where escaped bytes at the front belong to the escape before
 abbrev pub unescaped : ℕ → List ℕ → List ℕ
 unescaped escaped [] = []
 unescaped (suc escaped) (b ∷ rest) = unescaped escaped rest
-unescaped zero (b ∷ rest) =
-    if b == byte "\\" then escape_text (escape rest) ++ unescaped (escape_size (escape rest)) rest
-    else b ∷ unescaped zero rest
+unescaped zero (b ∷ rest) = next_text b rest ++ unescaped (next_size b rest) rest
 
--- the place of the first backslash that begins no escape, counted from at on
+-- a backslash begins no escape
+unfoldable pub is_bad_escape : ℕ → List ℕ → Bool
+is_bad_escape b rest = b == byte "\\" && is_none (escape rest)
+
+-- the place of the first one, counted from at on
 abbrev pub bad_escape : ℕ → ℕ → List ℕ → Option ℕ
 bad_escape escaped at [] = None
 bad_escape (suc escaped) at (b ∷ rest) = bad_escape escaped (at + 1) rest
-bad_escape zero at (b ∷ rest) =
-    if b == byte "\\" && is_none (escape rest) then Some at
-    else bad_escape (if b == byte "\\" then escape_size (escape rest) else 0) (at + 1) rest
+bad_escape zero at (b ∷ rest) = if is_bad_escape b rest then Some at else bad_escape (next_size b rest) (at + 1) rest

@@ -16,10 +16,16 @@ pub fn blanks(bytes: &[u8]) -> usize
     ensures value { result ≡ blanks bytes.now }
     ensures within { result ≤ length bytes.now }
 {
-    bytes
-        .iter()
-        .position(|byte| !is_blank(*byte))
-        .unwrap_or(bytes.len())
+    let mut size = 0;
+    let mut rest = bytes;
+    while let [byte, after @ ..] = rest {
+        if !is_blank(*byte) {
+            break;
+        }
+        size += 1;
+        rest = after;
+    }
+    size
 }
 
 /// Whether the first byte is this one.

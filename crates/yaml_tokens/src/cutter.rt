@@ -1,10 +1,11 @@
 //! The cutter, which goes over the bytes of a text once and gives its pieces.
 
-ghost use Rattle.std.specs.Prelude.{◌≡◌, ◌*◌, ◌<◌, ◌∷◌, [], true, Some, length};
-ghost use Rattle.yaml_tokens.specs.Pieces.{class_of};
+ghost use Rattle.std.specs.Prelude.{◌≡◌, ◌+◌, ◌*◌, ◌<◌, ◌≤◌, ◌^◌, ◌∷◌, [], true, Some, length};
+ghost use Rattle.yaml_tokens.specs.Pieces.{class_of, opening, content};
+ghost use Rattle.yaml_tokens.specs.Places.{opened, passed};
 ghost use Rattle.yaml_tokens.specs.declared.piece.Class.TheVariants as class;
 
-use crate::byte::is_blank;
+use crate::byte::{begins_blank, is_blank};
 use crate::front::front_of;
 use crate::line::{begins_document, behind_line, ends_document, is_skipped, line_size};
 use crate::piece::{Before, Class, Kind, Piece};
@@ -92,21 +93,14 @@ impl<'a> Cutter<'a> {
     }
 
     // Goes on to the next byte of the line that begins a piece, or to the line's end.
+    #[tactic(auto, unfolding(crate::specs::Places::left))]
     fn skip(&mut self)
         ensures { Skips self.old self.new }
     {
-        while let [byte, rest @ ..] = self.line {
-            if *byte == b'#' && self.fresh {
-                self.line = &[];
-                return;
-            }
-            if !is_blank(*byte) {
-                return;
-            }
-            self.line = rest;
-            self.column += 1;
-            self.fresh = true;
-        }
+        let rest = passed(self.line, self.fresh);
+        self.fresh = self.fresh || begins_blank(self.line);
+        self.column += self.line.len() - rest.len();
+        self.line = rest;
     }
 
     // Cuts the piece that a byte begins, which `rest` follows on the line.
@@ -117,11 +111,12 @@ impl<'a> Cutter<'a> {
         ensures { Cuts (Some result) self.old self.new }
     {
         let found = front_of(self.before, byte, rest);
-        let (bytes, line) = self.line.split_at(found.size + 1);
+        let (bytes, _) = self.line.split_at(found.size + 1);
+        let (_, line) = rest.split_at(found.size);
         let piece = Piece::new(self.line_at, self.column, found.kind, bytes);
         self.before = self.before.after(found.kind);
         self.fresh = found.ends_blank();
-        self.column += bytes.len();
+        self.column += 1 + found.size;
         self.line = line;
         piece
     }
@@ -135,31 +130,78 @@ impl<'a> Cutter<'a> {
     {
         let (line, _) = self.after.split_at(line_size(self.after));
         let rest = behind_line(self.after);
+        let class = class_of(self.before, line);
+        let piece = opening(class, self.before, self.after_at, line);
+        self.before = opened(class, self.before);
         self.line_at = self.after_at;
         self.column = 0;
         self.fresh = true;
+        self.line = content(class, line);
         self.after_at += self.after.len() - rest.len();
         self.after = rest;
-        match class_of(self.before, line) {
-            Class::Begins => Some(self.mark(Kind::Begin, line)),
-            Class::Skipped => None,
-            Class::Stray => Some(Piece::indentation(Kind::Stray, self.line_at, line)),
-            Class::Ends => Some(self.mark(Kind::End, line)),
-            Class::Body => {
-                self.line = line;
-                if self.before.in_flow() {
-                    None
-                } else {
-                    Some(Piece::indentation(Kind::Line, self.line_at, line))
-                }
+        piece
+    }
+}
+
+// The rest of a line from the next byte on that begins a piece.
+fn passed(line: &[u8], fresh: bool) -> &[u8]
+    ensures value { result.now ≡ passed fresh line.now }
+    ensures less { length result.now ≤ length line.now }
+{
+    let mut fresh = fresh;
+    let mut rest = line;
+    while let [byte, after @ ..] = rest {
+        if !is_blank(*byte) {
+            return if *byte == b'#' && fresh { &[] } else { rest };
+        }
+        fresh = true;
+        rest = after;
+    }
+    rest
+}
+
+// The piece that a line at an offset opens with.
+fn opening(class: Class, before: Before, at: usize, line: &[u8]) -> Option<Piece<'_>>
+    requires { at + length line.now < 2 ^ 63 }
+    ensures { result ≡ opening class before (record { at = at; bytes = line.now }) }
+{
+    match class {
+        Class::Begins => Some(Piece::new(at, 0, Kind::Begin, line)),
+        Class::Skipped => None,
+        Class::Stray => Some(Piece::indentation(Kind::Stray, at, line)),
+        Class::Ends => Some(Piece::new(at, 0, Kind::End, line)),
+        Class::Body => {
+            if before.in_flow() {
+                None
+            } else {
+                Some(Piece::indentation(Kind::Line, at, line))
             }
         }
     }
+}
 
-    // Takes the line as one piece.
-    fn mark(&mut self, kind: Kind, line: &'a [u8]) -> Piece<'a> {
-        self.before = self.before.after(kind);
-        Piece::new(self.line_at, 0, kind, line)
+// What of a line is cut.
+fn content(class: Class, line: &[u8]) -> &[u8]
+    ensures { result.now ≡ content class line.now }
+{
+    match class {
+        Class::Body => line,
+        Class::Begins | Class::Skipped | Class::Stray | Class::Ends => &[],
+    }
+}
+
+// What stands before the content of a line.
+fn opened(class: Class, before: Before) -> Before
+    requires opened { before.opened < 2 ^ 63 }
+    requires closed { before.closed < 2 ^ 63 }
+    ensures value { result ≡ opened class before }
+    ensures opened_bound { result.opened ≤ before.opened }
+    ensures closed_bound { result.closed ≤ before.closed }
+{
+    match class {
+        Class::Begins => before.after(Kind::Begin),
+        Class::Ends => before.after(Kind::End),
+        Class::Skipped | Class::Stray | Class::Body => before,
     }
 }
 

@@ -1,6 +1,6 @@
 //! Escapes between double quotes (YAML 1.2, "Escaped Characters").
 
-ghost use Rattle.std.specs.Prelude.{◌≡◌, ◌≤◌, IfSome, length};
+ghost use Rattle.std.specs.Prelude.{◌≡◌, ◌≤◌, IfSome};
 ghost use Rattle.yaml_tokens.specs.Escapes.{digit, two, four, eight, stands_for_itself, control, short, is_character, coded, escape};
 
 use crate::byte::behind;
@@ -17,8 +17,7 @@ pub struct Escape {
 /// The escape that stands at the front, behind its backslash; None exactly where there is none.
 #[tactic(auto, unfolding(crate::specs::Escapes::escape))]
 pub fn escape_at(bytes: &[u8]) -> Option<Escape>
-    ensures value { result ≡ escape bytes.now }
-    ensures within { IfSome result (λ e. e.size ≤ length bytes.now) }
+    ensures { result ≡ escape bytes.now }
 {
     match bytes {
         [] => None,

@@ -88,7 +88,7 @@ fn tab_fault(piece: &Piece) -> Option<Fault>
 {
     let place = first_tab(piece.bytes())?;
     Some(Fault {
-        at: (piece.at() + place) as u64,
+        at: piece.at() as u64 + place as u64,
         kind: YamlKind::Tab,
     })
 }
@@ -107,7 +107,7 @@ fn escape_fault(piece: &Piece) -> Option<Fault>
 {
     let place = bad_escape(within(piece.bytes()))?;
     Some(Fault {
-        at: (piece.at() + 1 + place) as u64,
+        at: piece.at() as u64 + (1 + place as u64),
         kind: YamlKind::BadEscape,
     })
 }

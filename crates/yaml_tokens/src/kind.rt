@@ -56,6 +56,7 @@ impl Fault {
 }
 
 /// Of two faults, where they are there, the one that stands.
+#[tactic(auto, unfolding(crate::specs::Least::first_of))]
 pub fn first_of(one: Option<Fault>, other: Option<Fault>) -> Option<Fault>
     ensures { result ≡ first_of one other }
 {

@@ -1,9 +1,9 @@
 //! The lines of a text, and those that begin and end documents (YAML 1.2, "Line Break Characters",
 //! "Document Markers").
 
-ghost use Rattle.std.specs.Prelude.{◌≡◌, ◌+◌, ◌-◌, ◌≤◌, ℕ, false, true, length, take, drop};
+ghost use Rattle.std.specs.Prelude.{◌≡◌, ◌≤◌, ◌<◌, false, length};
 ghost use Rattle.std.specs.Option.{option_copied};
-ghost use Rattle.yaml_tokens.specs.Lines.{line_ends, line, lines, skipped, ends_idle, word, behind_word, is_tag, tag_behind, begins_document, tag_of, ends_document, behind_line};
+ghost use Rattle.yaml_tokens.specs.Lines.{line_ends, line_size, behind_line, skipped, ends_idle, word_size, tag_behind, begins_document, tag_of, ends_document};
 
 use crate::byte::{begins_blank, begins_with, behind, blanks, is_blank};
 
@@ -17,8 +17,7 @@ fn line_ends(byte: u8, rest: &[u8]) -> bool
 
 /// How many bytes stand before the end of the first line.
 pub fn line_size(text: &[u8]) -> usize
-    ensures line { take result text.now ≡ line text.now }
-    ensures behind { behind_line (drop result text.now) ≡ behind_line text.now }
+    ensures value { result ≡ line_size text.now }
     ensures within { result ≤ length text.now }
 {
     let mut size = 0;
@@ -35,7 +34,9 @@ pub fn line_size(text: &[u8]) -> usize
 
 /// What stands behind the end of the first line.
 pub fn behind_line(text: &[u8]) -> &[u8]
-    ensures { result.now ≡ behind_line text.now }
+    ensures value { result.now ≡ behind_line text.now }
+    ensures within { length result.now ≤ length text.now }
+    ensures less { 0 < length text.now → length result.now < length text.now }
 {
     let mut rest = text;
     while let [byte, after @ ..] = rest {
@@ -49,7 +50,8 @@ pub fn behind_line(text: &[u8]) -> &[u8]
 
 /// Whether a line has nothing but blanks and a comment.
 pub fn is_skipped(line: &[u8]) -> bool
-    ensures { result ≡ skipped line.now }
+    ensures value { result ≡ skipped line.now }
+    ensures empty { result ≡ false → 0 < length line.now }
 {
     let mut rest = line;
     while let [byte, after @ ..] = rest {
@@ -73,15 +75,19 @@ fn ends_idle(rest: &[u8]) -> bool
 
 // How many bytes stand before a blank.
 fn word_size(bytes: &[u8]) -> usize
-    ensures value { result ≡ length (word bytes.now) }
-    ensures word { take result bytes.now ≡ word bytes.now }
-    ensures rest { drop result bytes.now ≡ behind_word bytes.now }
+    ensures value { result ≡ word_size bytes.now }
     ensures within { result ≤ length bytes.now }
 {
-    bytes
-        .iter()
-        .position(|byte| is_blank(*byte))
-        .unwrap_or(bytes.len())
+    let mut size = 0;
+    let mut rest = bytes;
+    while let [byte, after @ ..] = rest {
+        if is_blank(*byte) {
+            break;
+        }
+        size += 1;
+        rest = after;
+    }
+    size
 }
 
 // The tag behind the marker of a line that begins a document, if nothing else follows.

@@ -171,7 +171,8 @@ impl<'a> Piece<'a> {
 
     /// The offset of the piece.
     pub fn at(&self) -> usize
-        ensures { result ≡ self.now.line + self.now.column }
+        ensures value { result ≡ self.now.line + self.now.column }
+        ensures fits { result + length self.now.bytes < 2 ^ 63 }
     {
         self.line + self.column
     }

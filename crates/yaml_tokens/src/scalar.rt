@@ -1,15 +1,11 @@
 //! Plain and quoted scalars on a line (YAML 1.2, "Flow Scalar Styles").
 
-ghost use Rattle.std.specs.Prelude.{◌≡◌, ◌==◌, ◌≤◌, ◌++◌, ◌+◌, length, zero, false, OnOk, IfOk, IfSome, IsTrue};
-ghost use Rattle.std.specs.Char.{encode_utf8};
-ghost use Rattle.yaml_tokens.specs.Bytes.{begins};
-ghost use Rattle.yaml_tokens.specs.Escapes.{escape};
-ghost use Rattle.yaml_tokens.specs.Scalars.{gap, is_dubious, is_indicator, begins_plain, ends_plain, plain_size, single_size, double_size, within, undoubled, escape_size, escape_text, unescaped, bad_escape};
+ghost use Rattle.std.specs.Prelude.{◌≡◌, ◌≤◌, ◌<◌, ◌++◌, length, zero, false, OnOk, IfSome};
+ghost use Rattle.yaml_tokens.specs.Scalars.{gap, is_dubious, is_indicator, begins_plain, ends_plain, plain_size, single_size, double_size, within, kept, undoubled, escape_text, next_text, next_size, unescaped, is_bad_escape, bad_escape};
 
 use crate::byte::{begins_with, behind, is_blank, is_flow, is_left_out, is_quote};
-use crate::escape::escape_at;
+use crate::escape::{Escape, escape_at};
 use ifs_bytes::{Memory, Text};
-use std::alloc::Global;
 
 // Whether a blank or the line's end stands first, or an indicator of flow where flow is.
 #[tactic(auto, unfolding(crate::specs::Scalars::gap))]
@@ -59,6 +55,7 @@ fn ends_plain(flow: bool, byte: u8, rest: &[u8]) -> bool
 }
 
 /// How many bytes of a plain scalar stand at the front, without blanks at its end.
+#[tactic(auto, using(crate::proofs::Sizes::plain_turn))]
 pub fn plain_size(flow: bool, bytes: &[u8]) -> usize
     ensures value { result ≡ plain_size flow bytes.now }
     ensures within { result ≤ length bytes.now }
@@ -80,45 +77,42 @@ pub fn plain_size(flow: bool, bytes: &[u8]) -> usize
 }
 
 /// How many bytes stand up to a closing single quote, with it.
+#[tactic(auto, using(crate::proofs::Sizes::shifted))]
 pub fn single_size(bytes: &[u8]) -> Option<usize>
-    ensures value { result ≡ single_size bytes.now }
+    ensures value { result ≡ single_size false bytes.now }
     ensures within { IfSome result (λ n. n ≤ length bytes.now) }
 {
     let mut seen = 0;
+    let mut taken = false;
     let mut rest = bytes;
     while let [byte, after @ ..] = rest {
+        let quote = *byte == b'\'' && !taken;
         seen += 1;
-        rest = after;
-        if *byte == b'\'' {
-            match after {
-                [b'\'', more @ ..] => {
-                    seen += 1;
-                    rest = more;
-                }
-                _ => return Some(seen),
-            }
+        if quote && !begins_with(after, b'\'') {
+            return Some(seen);
         }
+        taken = quote;
+        rest = after;
     }
     None
 }
 
 /// How many bytes stand up to a closing double quote, with it.
+#[tactic(auto, using(crate::proofs::Sizes::shifted))]
 pub fn double_size(bytes: &[u8]) -> Option<usize>
-    ensures value { result ≡ double_size bytes.now }
+    ensures value { result ≡ double_size false bytes.now }
     ensures within { IfSome result (λ n. n ≤ length bytes.now) }
 {
     let mut seen = 0;
+    let mut taken = false;
     let mut rest = bytes;
     while let [byte, after @ ..] = rest {
-        if *byte == b'"' {
-            return Some(seen + 1);
+        seen += 1;
+        if *byte == b'"' && !taken {
+            return Some(seen);
         }
-        let size = if *byte == b'\\' { 2 } else { 1 };
-        if rest.len() < size {
-            return None;
-        }
-        seen += size;
-        rest = behind(rest, size);
+        taken = *byte == b'\\' && !taken;
+        rest = after;
     }
     None
 }
@@ -139,65 +133,97 @@ pub fn append_undoubled(out: &mut Text, bytes: &[u8]) -> Result<(), Memory>
     ensures { OnOk result (out.new ≡ out.old ++ undoubled false bytes.now) }
 {
     let mut second = false;
-    for byte in bytes {
+    let mut rest = bytes;
+    while let [byte, after @ ..] = rest {
         let quote = *byte == b'\'';
-        if quote && second {
-            second = false;
-        } else {
-            out.push(*byte)?;
-            second = quote;
-        }
+        keep(out, *byte, quote && second)?;
+        second = quote && !second;
+        rest = after;
     }
     Ok(())
 }
 
+// Appends a byte that isn't left out.
+fn keep(out: &mut Text, byte: u8, left_out: bool) -> Result<(), Memory>
+    ensures { OnOk result (out.new ≡ out.old ++ kept left_out byte) }
+{
+    if left_out { Ok(()) } else { out.push(byte) }
+}
+
 /// Appends the text between double quotes; where memory runs out, what `out` holds is left open.
+#[tactic(auto, using(crate::proofs::Sizes::unescaped_behind))]
 pub fn append_unescaped(out: &mut Text, bytes: &[u8]) -> Result<(), Memory>
     ensures { OnOk result (out.new ≡ out.old ++ unescaped zero bytes.now) }
 {
     let mut rest = bytes;
     while let [byte, after @ ..] = rest {
-        if *byte == b'\\' {
-            rest = behind(after, append_escaped(out, after)?);
-        } else {
-            out.push(*byte)?;
-            rest = after;
-        }
+        append_next(out, *byte, after)?;
+        rest = behind(after, next_size(*byte, after));
     }
     Ok(())
 }
 
-// Appends what the bytes behind a backslash stand for, and gives how many these are.
-fn append_escaped(out: &mut Text, bytes: &[u8]) -> Result<usize, Memory>
-    ensures size { IfOk result (λ size. size ≡ escape_size (escape bytes.now)) }
-    ensures text { OnOk result (out.new ≡ out.old ++ escape_text (escape bytes.now)) }
+// Appends what a byte stands for, or the escape that it begins.
+#[tactic(auto, unfolding(crate::specs::Scalars::next_text))]
+fn append_next(out: &mut Text, byte: u8, after: &[u8]) -> Result<(), Memory>
+    ensures { OnOk result (out.new ≡ out.old ++ next_text byte after.now) }
 {
-    match escape_at(bytes) {
-        None => Ok(1),
+    if byte == b'\\' {
+        append_escape(out, escape_at(after))
+    } else {
+        out.push(byte)
+    }
+}
+
+// Appends what an escape stands for.
+fn append_escape(out: &mut Text, escape: Option<Escape>) -> Result<(), Memory>
+    ensures { OnOk result (out.new ≡ out.old ++ escape_text escape) }
+{
+    match escape {
+        None => Ok(()),
         Some(escape) => {
             let mut buffer = [0; 4];
-            out.append(escape.character.encode_utf8(&mut buffer).as_bytes())?;
-            Ok(escape.size)
+            out.append(escape.character.encode_utf8(&mut buffer).as_bytes())
         }
     }
 }
 
+// How many bytes belong to a byte or the escape that it begins.
+#[tactic(auto, unfolding(crate::specs::Scalars::next_size))]
+fn next_size(byte: u8, after: &[u8]) -> usize
+    ensures { result ≡ next_size byte after.now }
+{
+    if byte == b'\\' {
+        match escape_at(after) {
+            None => 1,
+            Some(escape) => escape.size,
+        }
+    } else {
+        0
+    }
+}
+
+// Whether a byte is a backslash that begins no escape.
+#[tactic(auto, unfolding(crate::specs::Scalars::is_bad_escape))]
+fn is_bad_escape(byte: u8, after: &[u8]) -> bool
+    ensures { result ≡ is_bad_escape byte after.now }
+{
+    byte == b'\\' && escape_at(after).is_none()
+}
+
 /// The place of the first backslash between double quotes that begins no escape.
+#[tactic(auto, using(crate::proofs::Sizes::bad_escape_behind, crate::proofs::Sizes::next_fits))]
 pub fn bad_escape(bytes: &[u8]) -> Option<usize>
     ensures value { result ≡ bad_escape zero 0 bytes.now }
-    ensures within { IfSome result (λ n. n + 1 ≤ length bytes.now) }
+    ensures within { IfSome result (λ n. n < length bytes.now) }
 {
     let mut at = 0;
     let mut rest = bytes;
     while let [byte, after @ ..] = rest {
-        let size = if *byte == b'\\' {
-            match escape_at(after) {
-                None => return Some(at),
-                Some(escape) => escape.size,
-            }
-        } else {
-            0
-        };
+        if is_bad_escape(*byte, after) {
+            return Some(at);
+        }
+        let size = next_size(*byte, after);
         rest = behind(after, size);
         at += 1 + size;
     }
