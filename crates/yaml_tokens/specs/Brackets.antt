@@ -1,5 +1,5 @@
 -- How a pass over the pieces finds the first bracket that stays open.
-use Rattle.std.specs.Prelude.{ℕ, zero, suc, ◌+◌, ◌-◌, nat_le, Option, Some, None, if◌then◌else◌}
+use Rattle.std.specs.Prelude.{ℕ, zero, suc, ◌+◌, ◌-◌, ◌==◌, Option, Some, None, if◌then◌else◌}
 use Rattle.yaml_tokens.specs.Pieces.{PieceRecord}
 use Rattle.yaml_tokens.specs.Faults.{Step, Up, Down, Fresh, Level as Same, step_of, offset, fault_at}
 use Rattle.yaml_tokens.specs.declared.kind.YamlKind.TheVariants.{Unclosed as NotClosed}
@@ -8,9 +8,9 @@ use Rattle.yaml_tokens.specs.declared.fault.Brackets.{Brackets}
 use Rattle.yaml_tokens.specs.declared.fault.Brackets.TheVariants.{Level, Open, Unclosed}
 
 abbrev pub turned_by : Step → Brackets → ℕ → Brackets
-turned_by Up Level at = Open at 1
+turned_by Up Level at = Open at 0
 turned_by Up (Open first count) at = Open first (count + 1)
-turned_by Down (Open first count) at = if nat_le count 1 then Level else Open first (count - 1)
+turned_by Down (Open first count) at = if count == 0 then Level else Open first (count - 1)
 turned_by Fresh (Open first count) at = Unclosed first
 turned_by Same brackets at = brackets
 turned_by _ brackets at = brackets

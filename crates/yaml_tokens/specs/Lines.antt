@@ -37,7 +37,7 @@ behind_line (b ∷ rest) = if b == 10 then rest else behind_line rest
 -- nothing but blanks and a comment, where the first byte stands at the line's start or behind a blank
 abbrev pub skipped : List ℕ → Bool
 skipped [] = true
-skipped (b ∷ rest) = b == byte "#" || is_blank b && skipped rest
+skipped (b ∷ rest) = if is_blank b then skipped rest else b == byte "#"
 
 -- nothing, or a blank and nothing but blanks and a comment
 abbrev pub ends_idle : List ℕ → Bool

@@ -3,7 +3,6 @@
 ghost use Rattle.std.specs.Prelude.{◌≡◌, ◌+◌, ◌*◌, ◌<◌, ◌≤◌, ◌^◌, ◌∷◌, [], true, Some, length};
 ghost use Rattle.yaml_tokens.specs.Pieces.{class_of, opening, content};
 ghost use Rattle.yaml_tokens.specs.Places.{opened, passed};
-ghost use Rattle.yaml_tokens.specs.declared.piece.Class.TheVariants as class;
 
 use crate::byte::{begins_blank, is_blank};
 use crate::front::front_of;
@@ -182,7 +181,8 @@ fn opening(class: Class, before: Before, at: usize, line: &[u8]) -> Option<Piece
 
 // What of a line is cut.
 fn content(class: Class, line: &[u8]) -> &[u8]
-    ensures { result.now ≡ content class line.now }
+    ensures value { result.now ≡ content class line.now }
+    ensures within { length result.now ≤ length line.now }
 {
     match class {
         Class::Body => line,
@@ -208,8 +208,7 @@ fn opened(class: Class, before: Before) -> Before
 // What a line is, by what stands before it.
 #[tactic(auto, unfolding(crate::specs::Pieces::class_of))]
 fn class_of(before: Before, line: &[u8]) -> Class
-    ensures class { result ≡ class_of before line.now }
-    ensures body { result ≡ class.Body → 0 < length line.now }
+    ensures { result ≡ class_of before line.now }
 {
     if begins_document(line) {
         Class::Begins

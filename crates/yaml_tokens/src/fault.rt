@@ -117,7 +117,7 @@ fn escape_fault(piece: &Piece) -> Option<Fault>
 pub enum Brackets {
     /// None that could still be unclosed.
     Level,
-    /// The first one at an offset, and so many with it.
+    /// The first one at an offset, and so many behind it.
     Open(usize, usize),
     /// The one at this offset is the first that isn't closed.
     Unclosed(usize),
@@ -130,9 +130,9 @@ impl Brackets {
         ensures { result ≡ turned self piece.now }
     {
         match (self, piece.kind()) {
-            (Brackets::Level, Kind::Open) => Brackets::Open(piece.at(), 1),
+            (Brackets::Level, Kind::Open) => Brackets::Open(piece.at(), 0),
             (Brackets::Open(at, count), Kind::Open) => Brackets::Open(at, count + 1),
-            (Brackets::Open(at, count), Kind::Close) => if count <= 1 { Brackets::Level } else { Brackets::Open(at, count - 1) },
+            (Brackets::Open(at, count), Kind::Close) => if count == 0 { Brackets::Level } else { Brackets::Open(at, count - 1) },
             (Brackets::Open(at, _), Kind::Begin) => Brackets::Unclosed(at),
             (other, _) => other,
         }

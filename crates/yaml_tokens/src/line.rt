@@ -1,7 +1,7 @@
 //! The lines of a text, and those that begin and end documents (YAML 1.2, "Line Break Characters",
 //! "Document Markers").
 
-ghost use Rattle.std.specs.Prelude.{◌≡◌, ◌≤◌, ◌<◌, false, length};
+ghost use Rattle.std.specs.Prelude.{◌≡◌, ◌≤◌, ◌<◌, length};
 ghost use Rattle.std.specs.Option.{option_copied};
 ghost use Rattle.yaml_tokens.specs.Lines.{line_ends, line_size, behind_line, skipped, ends_idle, word_size, tag_behind, begins_document, tag_of, ends_document};
 
@@ -50,8 +50,7 @@ pub fn behind_line(text: &[u8]) -> &[u8]
 
 /// Whether a line has nothing but blanks and a comment.
 pub fn is_skipped(line: &[u8]) -> bool
-    ensures value { result ≡ skipped line.now }
-    ensures empty { result ≡ false → 0 < length line.now }
+    ensures { result ≡ skipped line.now }
 {
     let mut rest = line;
     while let [byte, after @ ..] = rest {
