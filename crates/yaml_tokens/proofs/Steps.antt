@@ -1,11 +1,11 @@
 -- Steps of the cutter, as laws on places.
-use Rattle.std.proofs.Common.{◌≡◌, ℕ, zero, suc, ◌+◌, ◌-◌, ◌*◌, ◌<◌, ◌≤◌, Bool, true, false, cond, ◌&&◌, ◌||◌, not, ◌==◌, ◌⊎◌, List, [], ◌∷◌, ◌++◌, length, take, drop, Option, Some, None, refl, ap, sym, subst, ◌∙◌, inl, inr, arith}
+use Rattle.std.proofs.Common.{◌≡◌, ℕ, zero, suc, ◌+◌, ◌-◌, ◌*◌, ◌<◌, ◌≤◌, Bool, true, false, cond, ◌&&◌, ◌||◌, not, ◌==◌, ◌⊎◌, List, [], ◌∷◌, ◌++◌, length, take, drop, Option, Some, None, refl, ap, sym, subst, ◌∙◌, inl, inr, arith, length-drop}
 use Rattle.std.specs.Str.{byte}
 use Rattle.std.specs.Option.{option_to_list}
 use Rattle.yaml_tokens.specs.Bytes.{is_blank, begins}
 use Rattle.yaml_tokens.specs.Lines.{Line, line, lines, line_size, line_ends, behind_line}
 use Rattle.yaml_tokens.specs.Pieces.{PieceRecord, cut, front, front_piece, is_dash, after, after_all, pieces, in_flow, class_of, opening, content, indentation}
-use Rattle.yaml_tokens.specs.Places.{Place, left, continued, passed, begins_piece, opened, work, OpensLine}
+use Rattle.yaml_tokens.specs.Places.{Place, left, continued, passed, begins_piece, opened, work, OpensLine, Cuts, Skips}
 use Rattle.yaml_tokens.specs.declared.piece.Before.{Before}
 use Rattle.yaml_tokens.specs.declared.front.Front.{Front}
 use Rattle.yaml_tokens.specs.declared.piece.Class.{Class}
@@ -249,3 +249,47 @@ pub opens_by : (o : Option PieceRecord) (old new : Place) → left old ≡ optio
     → length new.line + length new.after ≤ length old.after → OpensLine o old new
 opens_by None old new e less fits = (e, less)
 opens_by (Some p) old new e less fits = (e, omega arith)
+
+-- what the cutter's methods leave, seen from the place before
+pub skips : (line_at column after_at : ℕ) (fresh fresh' : Bool) (before : Before) (z rest text : List ℕ) (old : Place) → place z line_at column fresh text after_at before ≡ old
+    → rest ≡ passed fresh z → fresh' ≡ (fresh || begins is_blank z) → Skips old (place rest line_at (column + (length z - length rest)) fresh' text after_at before)
+skips line_at column after_at fresh fresh' before z rest text old view er ef =
+    let new = place rest line_at (column + (length z - length rest)) fresh' text after_at before in
+    let P : Place → Type 0 = λ o. Skips o new in
+    let less : length rest ≤ length z = omega (arith, ap length er, passed_less fresh z) in
+    let here : P (place z line_at column fresh text after_at before) = record {
+      same = left_passed line_at column after_at fresh fresh' before z rest text er ef;
+      after_same = refl;
+      less = less;
+      begins = passed_begins fresh fresh' z rest er ef;
+    } in
+    subst P view here
+
+pub takes : (line_at column after_at b : ℕ) (fresh dash : Bool) (before next : Before) (z bytes line rest text : List ℕ) (f : Front) (piece : PieceRecord) (old : Place)
+    → place z line_at column fresh text after_at before ≡ old → old.line ≡ b ∷ rest → begins_piece old.fresh old.line ≡ true
+    → f ≡ front before b rest → bytes ≡ take (f.size + 1) z → line ≡ drop f.size rest → dash ≡ is_dash f → next ≡ after before f.kind
+    → piece ≡ record { line = line_at; column = column; kind = f.kind; bytes = bytes }
+    → Cuts (Some piece) old (place line line_at (column + (1 + f.size)) dash text after_at next)
+takes line_at column after_at b fresh dash before next z bytes line rest text f piece old view ez begins ef eb el ed en ep =
+    let new = place line line_at (column + (1 + f.size)) dash text after_at next in
+    let P : Place → Type 0 = λ o. o.line ≡ b ∷ rest → begins_piece o.fresh o.line ≡ true → (left o ≡ piece ∷ left new) × (work new < work o) in
+    let here : P (place z line_at column fresh text after_at before) = λ e h.
+        let long : length z ≡ suc (length rest) = ap length e in
+        let short : length line ≤ length rest = omega (arith, ap length el, length-drop f.size rest) in
+        (left_take line_at column after_at b fresh dash before next z bytes line rest text f e h ef eb el ed en ∙ ap (λ p. p ∷ left new) (sym ep), omega arith) in
+    subst P view here ez begins
+
+pub line_opened : (line_at column after_at n : ℕ) (fresh : Bool) (before next : Before) (z line' cut' text rest : List ℕ) (k : Class) (o : Option PieceRecord) (old : Place)
+    → place z line_at column fresh text after_at before ≡ old → old.line ≡ [] → 0 < length old.after
+    → n ≡ line_size text → line' ≡ take n text → length line' ≡ n → rest ≡ behind_line text → (0 < length text → length rest < length text)
+    → k ≡ class_of before line' → o ≡ opening k before (record { at = after_at; bytes = line' }) → cut' ≡ content k line' → length cut' ≤ length line' → next ≡ opened k before
+    → OpensLine o old (place cut' after_at 0 true rest (after_at + (length text - length rest)) next)
+line_opened line_at column after_at n fresh before next z line' cut' text rest k o old view ez some esize el elen er less ek eo ec within en =
+    let new = place cut' after_at 0 true rest (after_at + (length text - length rest)) next in
+    let P : Place → Type 0 = λ p. p.line ≡ [] → 0 < length p.after → OpensLine o p new in
+    let fits : n + length rest ≤ length text = line_behind text rest n er esize in
+    let whole : line' ≡ line text = el ∙ ap (λ m. take m text) esize in
+    let here : P (place z line_at column fresh text after_at before) = λ e h.
+        opens_by o (place z line_at column fresh text after_at before) new
+          (left_open line_at column after_at fresh before next z line' cut' text rest k o e h whole er ek eo ec en) (less h) (omega arith) in
+    subst P view here ez some

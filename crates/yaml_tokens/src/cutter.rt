@@ -1,6 +1,7 @@
 //! The cutter, which goes over the bytes of a text once and gives its pieces.
 
-ghost use Rattle.std.specs.Prelude.{◌≡◌, ◌+◌, ◌*◌, ◌<◌, ◌≤◌, ◌^◌, ◌∷◌, [], true, Some, length};
+ghost use Rattle.std.specs.Prelude.{◌≡◌, ◌+◌, ◌*◌, ◌<◌, ◌≤◌, ◌^◌, ◌||◌, ◌∷◌, [], true, Some, length};
+ghost use Rattle.yaml_tokens.specs.Bytes.{is_blank, begins};
 ghost use Rattle.yaml_tokens.specs.Pieces.{class_of, opening, content};
 ghost use Rattle.yaml_tokens.specs.Places.{opened, passed};
 
@@ -38,7 +39,8 @@ impl<'a> Model for Cutter<'a> {
 }
 
 impl<'a> Cutter<'a> {
-    ghost use Rattle.yaml_tokens.specs.Pieces.{pieces_of};
+    ghost use Rattle.yaml_tokens.specs.Bytes.{is_blank, begins};
+ghost use Rattle.yaml_tokens.specs.Pieces.{pieces_of};
     ghost use Rattle.yaml_tokens.specs.Places.{left, work, begins_piece, Cuts, CutsLine, OpensLine, Skips};
 
     /// The place before a text.
@@ -97,7 +99,7 @@ impl<'a> Cutter<'a> {
         ensures { Skips self.old self.new }
     {
         let rest = passed(self.line, self.fresh);
-        self.fresh = self.fresh || begins_blank(self.line);
+        self.fresh = is_fresh(self.fresh, self.line);
         self.column += self.line.len() - rest.len();
         self.line = rest;
     }
@@ -140,6 +142,13 @@ impl<'a> Cutter<'a> {
         self.after = rest;
         piece
     }
+}
+
+// Whether the line's start or a blank stands before what follows the blanks at the front.
+fn is_fresh(fresh: bool, line: &[u8]) -> bool
+    ensures { result ≡ (fresh || begins is_blank line.now) }
+{
+    fresh || begins_blank(line)
 }
 
 // The rest of a line from the next byte on that begins a piece.
