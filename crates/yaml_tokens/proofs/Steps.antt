@@ -247,7 +247,7 @@ left_open line_at column after_at fresh before next z line' cut' text rest k o e
 
 pub opens_by : (o : Option PieceRecord) (old new : Place) → left old ≡ option_to_list o ++ left new → length new.after < length old.after
     → length new.line + length new.after ≤ length old.after → OpensLine o old new
-opens_by None old new e less fits = (e, less)
+opens_by None old new e less fits = (e, omega arith)
 opens_by (Some p) old new e less fits = (e, omega arith)
 
 -- what the cutter's methods leave, seen from the place before
@@ -259,8 +259,7 @@ skips line_at column after_at fresh fresh' before z rest text old view er ef =
     let less : length rest ≤ length z = omega (arith, ap length er, passed_less fresh z) in
     let here : P (place z line_at column fresh text after_at before) = record {
       same = left_passed line_at column after_at fresh fresh' before z rest text er ef;
-      after_same = refl;
-      less = less;
+      work_left = omega arith;
       begins = passed_begins fresh fresh' z rest er ef;
     } in
     subst P view here
@@ -293,3 +292,10 @@ line_opened line_at column after_at n fresh before next z line' cut' text rest k
         opens_by o (place z line_at column fresh text after_at before) new
           (left_open line_at column after_at fresh before next z line' cut' text rest k o e h whole er ek eo ec en) (less h) (omega arith) in
     subst P view here ez some
+
+-- nothing is left at the text's end
+pub left_end : (p : Place) → p.line ≡ [] → p.after ≡ [] → left p ≡ []
+unfolding left
+left_end p line rest =
+    ap (λ z. continued p.before (cut zero p.fresh p.before p.line_at p.column z) (lines true p.after_at p.after)) line
+    ∙ ap (λ z. pieces p.before (lines true p.after_at z)) rest

@@ -1,9 +1,13 @@
 -- Turns of the pass that finds the fault of the pieces.
-use Rattle.std.proofs.Common.{◌≡◌, ℕ, zero, suc, ◌+◌, ◌-◌, ◌<◌, ◌≤◌, Bool, true, false, cond, ◌&&◌, ◌||◌, ◌==◌, nat_lt, nat_le, List, [], ◌∷◌, Option, Some, None, refl, ap, sym, ◌∙◌, arith}
+use Rattle.std.proofs.Common.{◌≡◌, ℕ, zero, suc, ◌+◌, ◌-◌, ◌<◌, ◌≤◌, Bool, true, false, cond, ◌&&◌, ◌||◌, ◌==◌, nat_lt, nat_le, List, [], ◌∷◌, ◌++◌, Option, Some, None, refl, ap, sym, ◌∙◌, arith, append_assoc, append-nil}
+use Rattle.std.specs.List.{filter_map, cons_option}
+use Rattle.std.specs.Option.{option_to_list}
 use Rattle.std.proofs.lemmas.Bool.Decides.{nat_tests}
 use Rattle.yaml_tokens.specs.Least.{first_of, goes_before, rank}
 use Rattle.yaml_tokens.specs.Faults.{Step, Up, Down, Fresh, Level as Same, step_of, offset, fault_at, stays_open, unclosed, least, own_fault}
-use Rattle.yaml_tokens.specs.Brackets.{turned, turned_by, found_in}
+use Rattle.yaml_tokens.specs.Brackets.{turned, turned_by, found_in, open_count}
+use Rattle.yaml_tokens.specs.Tokens.{token_of}
+use Rattle.yaml_tokens.specs.declared.token.Token.{Token}
 use Rattle.yaml_tokens.specs.Pieces.{PieceRecord}
 use Rattle.yaml_tokens.specs.declared.kind.YamlKind.TheVariants.{Unclosed as NotClosed}
 use Rattle.yaml_tokens.specs.declared.kind.Fault.{Fault}
@@ -114,3 +118,49 @@ first_of_three None b c = refl
 first_of_three (Some f) None c = refl
 first_of_three (Some f) (Some g) None = refl
 first_of_three (Some f) (Some g) (Some h) = ap Some (first_by f g h (goes_before f g) (goes_before g h) refl refl)
+
+-- a turn of the pass that finds the fault
+pub least_turn : (fault fault' : Option Fault) (p : PieceRecord) (ps qs : List PieceRecord) (all : Option Fault) → fault' ≡ first_of fault (own_fault p) → ps ≡ p ∷ qs
+    → first_of fault (least ps) ≡ all → first_of fault' (least qs) ≡ all
+least_turn fault fault' p ps qs all e cuts so_far =
+    ap (λ f. first_of f (least qs)) e ∙ first_of_three fault (own_fault p) (least qs) ∙ ap (λ w. first_of fault (least w)) (sym cuts) ∙ so_far
+
+pub found_turn : (b b' : Brackets) (p : PieceRecord) (ps qs : List PieceRecord) (all : Option Fault) → b' ≡ turned b p → ps ≡ p ∷ qs → found_by b ps ≡ all → found_by b' qs ≡ all
+found_turn b b' p ps qs all e cuts so_far = ap (λ w. found_by w qs) e ∙ sym (bracket_turn b p qs) ∙ ap (found_by b) (sym cuts) ∙ so_far
+
+count_by_step : (s : Step) (b : Brackets) (at : ℕ) → open_count (turned_by s b at) ≤ open_count b + 1
+count_by_step s Level at = elim s as (λ t. open_count (turned_by t Level at) ≤ 1) [ Up ↦ omega arith | Down ↦ omega arith | Same ↦ omega arith | Fresh ↦ omega arith ]
+count_by_step s (Open first n) at =
+    let down : open_count (cond (n == 0) Level (Open first (n - 1))) ≤ n + 1 =
+        elim (n == 0) as (λ t. open_count (cond t Level (Open first (n - 1))) ≤ n + 1) [ true ↦ omega arith | false ↦ omega arith ] in
+    elim s as (λ t. open_count (turned_by t (Open first n) at) ≤ n + 1) [ Up ↦ omega arith | Down ↦ down | Same ↦ omega arith | Fresh ↦ omega arith ]
+count_by_step s (Unclosed first) at = elim s as (λ t. open_count (turned_by t (Unclosed first) at) ≤ 1) [ Up ↦ omega arith | Down ↦ omega arith | Same ↦ omega arith | Fresh ↦ omega arith ]
+
+pub count_turn : (b b' : Brackets) (p : PieceRecord) → b' ≡ turned b p → open_count b' ≤ open_count b + 1
+count_turn b b' p e =
+    let h : open_count (turned b p) ≤ open_count b + 1 = count_by_step (step_of p.kind) b (offset p) in
+    let g : open_count b' ≡ open_count (turned b p) = ap open_count e in
+    omega arith
+
+-- and its end
+pub fault_end : (fault found least' unclosed' : Option Fault) (b : Brackets) (ps : List PieceRecord) → ps ≡ [] → first_of fault (least ps) ≡ least' → found_by b ps ≡ unclosed' → found ≡ found_in b
+    → first_of fault found ≡ first_of least' unclosed'
+fault_end fault found least' unclosed' b ps none el eu ef =
+    let l : fault ≡ least' = sym (first_of_none fault) ∙ ap (λ w. first_of fault (least w)) (sym none) ∙ el in
+    let u : found ≡ unclosed' = ef ∙ sym (found_end b) ∙ ap (found_by b) (sym none) ∙ eu in
+    ap (λ w. first_of w found) l ∙ ap (first_of least') u
+
+-- a turn of the pass that keeps the tokens
+option_front : {X : Type 0} (o : Option X) (xs : List X) → cons_option o xs ≡ option_to_list o ++ xs
+option_front None xs = refl
+option_front (Some x) xs = refl
+
+pub token_turn : (old new all : List Token) (p : PieceRecord) (ps qs : List PieceRecord) → new ≡ old ++ option_to_list (token_of p) → ps ≡ p ∷ qs
+    → old ++ filter_map token_of ps ≡ all → new ++ filter_map token_of qs ≡ all
+token_turn old new all p ps qs e cuts so_far =
+    let rest = filter_map token_of qs in
+    ap (λ w. w ++ rest) e ∙ append_assoc old (option_to_list (token_of p)) rest
+    ∙ (ap (λ w. old ++ w) (sym (option_front (token_of p) rest)) ∙ (ap (λ w. old ++ filter_map token_of w) (sym cuts) ∙ so_far))
+
+pub token_end : (tokens all : List Token) (ps : List PieceRecord) → ps ≡ [] → tokens ++ filter_map token_of ps ≡ all → tokens ≡ all
+token_end tokens all ps none so_far = sym (append-nil tokens) ∙ ap (λ w. tokens ++ filter_map token_of w) (sym none) ∙ so_far

@@ -59,8 +59,7 @@ begins_piece fresh (b ∷ rest) = not (is_blank b) && not (b == byte "#" && fres
 -- the place goes on to the next byte that begins a piece, or to the line's end
 pub record Skips (old new : Place) : Type 0 where
   pub same : left old ≡ left new
-  pub after_same : old.after ≡ new.after
-  pub less : length new.line ≤ length old.line
+  pub work_left : work new ≤ work old
   pub begins : (new.line ≡ []) ⊎ (begins_piece new.fresh new.line ≡ true)
 
 -- the next piece, or None where there is no more
@@ -70,10 +69,10 @@ Cuts (Some p) old new = (left old ≡ p ∷ left new) × (work new < work old)
 
 -- the next piece, or None where the line has no more
 abbrev pub CutsLine : Option PieceRecord → Place → Place → Type 0
-CutsLine None old new = (left old ≡ left new) × ((new.line ≡ []) × (old.after ≡ new.after))
+CutsLine None old new = (left old ≡ left new) × ((new.line ≡ []) × (work new ≤ work old))
 CutsLine (Some p) old new = Cuts (Some p) old new
 
 -- the first piece of the next line, or None where it's to be cut or skipped
 abbrev pub OpensLine : Option PieceRecord → Place → Place → Type 0
-OpensLine None old new = (left old ≡ left new) × (length new.after < length old.after)
+OpensLine None old new = (left old ≡ left new) × (work new < work old)
 OpensLine (Some p) old new = Cuts (Some p) old new
