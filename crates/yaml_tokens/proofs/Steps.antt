@@ -1,5 +1,6 @@
 -- Steps of the cutter, as laws on places.
 use Rattle.std.proofs.Common.{◌≡◌, ℕ, zero, suc, ◌+◌, ◌-◌, ◌*◌, ◌<◌, ◌≤◌, Bool, true, false, cond, ◌&&◌, ◌||◌, not, ◌==◌, ◌⊎◌, List, [], ◌∷◌, ◌++◌, length, take, drop, Option, Some, None, refl, ap, sym, subst, ◌∙◌, inl, inr, arith, length-drop}
+use Rattle.std.proofs.lemmas.Bool.Decides.{nat_tests}
 use Rattle.std.specs.Str.{byte}
 use Rattle.std.specs.Option.{option_to_list}
 use Rattle.yaml_tokens.specs.Bytes.{is_blank, begins}
@@ -299,3 +300,15 @@ unfolding left
 left_end p line rest =
     ap (λ z. continued p.before (cut zero p.fresh p.before p.line_at p.column z) (lines true p.after_at p.after)) line
     ∙ ap (λ z. pieces p.before (lines true p.after_at z)) rest
+
+nil_of_length : (z : List ℕ) → (length z == 0) ≡ true → z ≡ []
+nil_of_length [] h = refl
+nil_of_length (b ∷ rest) h =
+    let e : (suc (length rest) == 0) ≡ false = grind (arith, nat_tests) in
+    let q : false ≡ true = sym e ∙ h in cc
+
+pub left_none : (first here new view : Place) (empty : Bool) → left first ≡ left here → left here ≡ left new → new.line ≡ [] → view ≡ new
+    → empty ≡ (length view.after == 0) → empty ≡ true → left first ≡ []
+left_none first here new view empty same cuts line is test holds =
+    let none : view.after ≡ [] = nil_of_length view.after (sym test ∙ holds) in
+    same ∙ cuts ∙ left_end new line (ap (λ p. p.after) (sym is) ∙ none)

@@ -164,3 +164,7 @@ token_turn old new all p ps qs e cuts so_far =
 
 pub token_end : (tokens all : List Token) (ps : List PieceRecord) → ps ≡ [] → tokens ++ filter_map token_of ps ≡ all → tokens ≡ all
 token_end tokens all ps none so_far = sym (append-nil tokens) ∙ ap (λ w. tokens ++ filter_map token_of w) (sym none) ∙ so_far
+
+pub none_first_of : (f : Option Fault) → first_of None f ≡ f
+unfolding first_of
+none_first_of f = refl
