@@ -1,5 +1,5 @@
 -- Steps of the loops that go over the bytes of a scalar.
-use Rattle.std.proofs.Common.{◌≡◌, ℕ, zero, suc, ◌+◌, ◌≤◌, Bool, true, false, cond, ◌&&◌, not, ◌==◌, List, [], ◌∷◌, ◌-◌, length, take, drop, Option, Some, None, refl, ap, sym, ◌∙◌, arith, get_or, ◌<◌, ◌++◌, append_assoc, length-drop}
+use Rattle.std.proofs.Common.{◌≡◌, ℕ, zero, suc, ◌+◌, ◌≤◌, Bool, true, false, cond, ◌&&◌, ◌==◌, List, [], ◌∷◌, ◌-◌, length, take, drop, Option, Some, None, refl, ap, sym, ◌∙◌, arith, get_or, ◌++◌, append_assoc, length-drop}
 use Rattle.std.proofs.Math.Seq.{take-length}
 use Rattle.std.specs.Prelude.{option_map, is_none}
 use Rattle.std.specs.Str.{byte}
@@ -38,7 +38,7 @@ unescaped_turn out new rest after all [] n some tail pushed size left so_far = a
 unescaped_turn out new rest after all (b ∷ z) n some tail pushed size left so_far =
     let is : after ≡ z = tail ∙ tail_is b z in
     let step : unescaped zero rest ≡ unescaped (next_size b after) after =
-        ap (unescaped zero) left ∙ sym (unescaped_behind n after) ∙ ap (λ k. unescaped k after) size in
+    ap (unescaped zero) left ∙ sym (unescaped_behind n after) ∙ ap (λ k. unescaped k after) size in
     ap (λ w. w ++ unescaped zero rest) pushed ∙ append_assoc out (next_text b after) (unescaped zero rest)
     ∙ (ap (λ w. out ++ (next_text b after ++ w)) step ∙ (ap (λ w. out ++ (next_text b w ++ unescaped (next_size b w) w)) is ∙ so_far))
 
@@ -82,7 +82,7 @@ unfolding coded
 coded_fits size None n fits h = let q : true ≡ false = h in cc
 coded_fits size (Some v) n fits h =
     elim (is_character v) as (λ t. is_none {T = Escape} (cond t (Some (record { size = size; character = v })) None) ≡ false → escape_size (cond t (Some (record { size = size; character = v })) None) ≤ n)
-      [ true ↦ λ _. fits v refl | false ↦ λ q. let r : true ≡ false = q in cc ] h
+    [ true ↦ λ _. fits v refl | false ↦ λ q. let r : true ≡ false = q in cc ] h
 
 escape_fits : (z : List ℕ) → is_none (escape z) ≡ false → escape_size (escape z) ≤ length z
 unfolding escape
@@ -93,17 +93,19 @@ escape_fits (b ∷ rest) h =
     let u : P (coded 5 (four rest)) = coded_fits 5 (four rest) (length (b ∷ rest)) (λ v e. omega (arith, four_fits rest v e)) in
     let w : P (coded 9 (eight rest)) = coded_fits 9 (eight rest) (length (b ∷ rest)) (λ v e. omega (arith, eight_fits rest v e)) in
     let s : P (coded 1 (short b)) = coded_fits 1 (short b) (length (b ∷ rest)) (λ v e. omega arith) in
-    elim (b == byte "x") as (λ t. P (cond t (coded 3 (two rest)) (cond (b == byte "u") (coded 5 (four rest)) (cond (b == byte "U") (coded 9 (eight rest)) (coded 1 (short b))))))
-      [ true ↦ x
-      | false ↦ elim (b == byte "u") as (λ t. P (cond t (coded 5 (four rest)) (cond (b == byte "U") (coded 9 (eight rest)) (coded 1 (short b)))))
-          [ true ↦ u
-          | false ↦ elim (b == byte "U") as (λ t. P (cond t (coded 9 (eight rest)) (coded 1 (short b)))) [ true ↦ w | false ↦ s ] ] ] h
+    elim (b == byte "x") as (λ t. P (cond t (coded 3 (two rest)) (cond (b == byte "u") (coded 5 (four rest)) (cond (b == byte "U") (coded 9 (eight rest)) (coded 1 (short b)))))) [
+      | true ↦ x
+      | false ↦ elim (b == byte "u") as (λ t. P (cond t (coded 5 (four rest)) (cond (b == byte "U") (coded 9 (eight rest)) (coded 1 (short b))))) [
+        | true ↦ u
+        | false ↦ elim (b == byte "U") as (λ t. P (cond t (coded 9 (eight rest)) (coded 1 (short b)))) [ true ↦ w | false ↦ s ]
+      ]
+    ] h
 
 pub next_fits : (b : ℕ) (z : List ℕ) → is_bad_escape b z ≡ false → next_size b z ≤ length z
 unfolding is_bad_escape next_size
 next_fits b z h =
     elim (b == byte "\\") as (λ t. (t && is_none (escape z)) ≡ false → cond t (escape_size (escape z)) 0 ≤ length z)
-      [ true ↦ λ q. escape_fits z q | false ↦ λ q. omega arith ] h
+    [ true ↦ λ q. escape_fits z q | false ↦ λ q. omega arith ] h
 
 -- one turn of the loop that looks for a bad escape
 pub bad_escape_turn : (at n : ℕ) (rest after z : List ℕ) (all : Option ℕ) → 1 ≤ length z → after ≡ take (length z - 1) (drop 1 z) → is_bad_escape (get_or z 0 0) after ≡ false

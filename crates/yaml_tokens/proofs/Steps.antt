@@ -1,5 +1,5 @@
 -- Steps of the cutter, as laws on places.
-use Rattle.std.proofs.Common.{◌≡◌, ℕ, zero, suc, ◌+◌, ◌-◌, ◌*◌, ◌<◌, ◌≤◌, Bool, true, false, cond, ◌&&◌, ◌||◌, not, ◌==◌, ◌⊎◌, List, [], ◌∷◌, ◌++◌, length, take, drop, Option, Some, None, refl, ap, sym, subst, ◌∙◌, inl, inr, arith, length-drop}
+use Rattle.std.proofs.Common.{◌≡◌, ℕ, zero, suc, ◌+◌, ◌-◌, ◌<◌, ◌≤◌, Bool, true, false, cond, ◌&&◌, ◌||◌, not, ◌==◌, ◌⊎◌, List, [], ◌∷◌, ◌++◌, length, take, drop, Option, Some, None, refl, ap, sym, subst, ◌∙◌, inl, inr, arith, length-drop}
 use Rattle.std.proofs.lemmas.Bool.Decides.{nat_tests}
 use Rattle.std.specs.Str.{byte}
 use Rattle.std.specs.Option.{option_to_list}
@@ -15,7 +15,14 @@ use Rattle.yaml_tokens.specs.declared.piece.Kind.TheVariants.{Line as Indent}
 
 abbrev place : List ℕ → ℕ → ℕ → Bool → List ℕ → ℕ → Before → Place
 place z line_at column fresh rest after_at before = record {
-  line = z; line_at = line_at; column = column; fresh = fresh; after = rest; after_at = after_at; before = before }
+  line = z;
+  line_at = line_at;
+  column = column;
+  fresh = fresh;
+  after = rest;
+  after_at = after_at;
+  before = before;
+}
 
 -- behind the bytes of a piece
 cut_behind : (k : ℕ) (fresh : Bool) (before : Before) (at column : ℕ) (z : List ℕ) → cut k fresh before at column z ≡ cut zero fresh before at (column + k) (drop k z)
@@ -34,20 +41,20 @@ choice false false x y h = refl
 
 cut_piece : (fresh : Bool) (before : Before) (at column b : ℕ) (rest : List ℕ) → begins_piece fresh (b ∷ rest) ≡ true
     → cut zero fresh before at column (b ∷ rest)
-      ≡ front_piece (front before b rest) at column b rest
-        ∷ cut zero (is_dash (front before b rest)) (after before (front before b rest).kind) at (column + (1 + (front before b rest).size)) (drop (front before b rest).size rest)
+    ≡ front_piece (front before b rest) at column b rest
+    ∷ cut zero (is_dash (front before b rest)) (after before (front before b rest).kind) at (column + (1 + (front before b rest).size)) (drop (front before b rest).size rest)
 cut_piece fresh before at column b rest h =
     let f = front before b rest in
     let e : column + 1 + f.size ≡ column + (1 + f.size) = omega arith in
     choice (is_blank b) (b == byte "#" && fresh) _ _ h
     ∙ ap (λ w. front_piece f at column b rest ∷ w)
-        (cut_behind f.size (is_dash f) (after before f.kind) at (column + 1) rest
-         ∙ ap (λ n. cut zero (is_dash f) (after before f.kind) at n (drop f.size rest)) e)
+    (cut_behind f.size (is_dash f) (after before f.kind) at (column + 1) rest
+    ∙ ap (λ n. cut zero (is_dash f) (after before f.kind) at n (drop f.size rest)) e)
 
 left_cons : (line_at column after_at b : ℕ) (fresh : Bool) (before : Before) (rest text : List ℕ) → begins_piece fresh (b ∷ rest) ≡ true
     → left (place (b ∷ rest) line_at column fresh text after_at before)
-      ≡ front_piece (front before b rest) line_at column b rest
-        ∷ left (place (drop (front before b rest).size rest) line_at (column + (1 + (front before b rest).size)) (is_dash (front before b rest)) text after_at (after before (front before b rest).kind))
+    ≡ front_piece (front before b rest) line_at column b rest
+    ∷ left (place (drop (front before b rest).size rest) line_at (column + (1 + (front before b rest).size)) (is_dash (front before b rest)) text after_at (after before (front before b rest).kind))
 unfolding left
 left_cons line_at column after_at b fresh before rest text h =
     ap (λ here. continued before here (lines true after_at text)) (cut_piece fresh before line_at column b rest h)
@@ -59,7 +66,7 @@ take_more n b rest = let e : n + 1 ≡ suc n = omega arith in ap (λ k. take k (
 pub left_take : (line_at column after_at b : ℕ) (fresh dash : Bool) (before next : Before) (z bytes line rest text : List ℕ) (f : Front)
     → z ≡ b ∷ rest → begins_piece fresh z ≡ true → f ≡ front before b rest → bytes ≡ take (f.size + 1) z → line ≡ drop f.size rest → dash ≡ is_dash f → next ≡ after before f.kind
     → left (place z line_at column fresh text after_at before)
-      ≡ (record { line = line_at; column = column; kind = f.kind; bytes = bytes } ∷ left (place line line_at (column + (1 + f.size)) dash text after_at next))
+    ≡ (record { line = line_at; column = column; kind = f.kind; bytes = bytes } ∷ left (place line line_at (column + (1 + f.size)) dash text after_at next))
 left_take line_at column after_at b fresh dash before next z bytes line rest text f ez begins ef eb el ed en =
     let P : List ℕ → Type 0 = λ w. begins_piece fresh w ≡ true in
     let h : begins_piece fresh (b ∷ rest) ≡ true = subst P ez begins in
@@ -78,9 +85,10 @@ passed_less fresh [] = omega arith
 passed_less fresh (b ∷ rest) =
     let P : List ℕ → Type 0 = λ w. length w ≤ length (b ∷ rest) in
     let blank : P (passed true rest) = omega (arith, passed_less true rest) in
-    elim (is_blank b) as (λ t. P (cond t (passed true rest) (cond (b == byte "#" && fresh) [] (b ∷ rest))))
-      [ true ↦ blank
-      | false ↦ elim (b == byte "#" && fresh) as (λ t. P (cond t [] (b ∷ rest))) [ true ↦ omega arith | false ↦ omega arith ] ]
+    elim (is_blank b) as (λ t. P (cond t (passed true rest) (cond (b == byte "#" && fresh) [] (b ∷ rest)))) [
+      | true ↦ blank
+      | false ↦ elim (b == byte "#" && fresh) as (λ t. P (cond t [] (b ∷ rest))) [ true ↦ omega arith | false ↦ omega arith ]
+    ]
 
 or_true : (b : Bool) → (b || true) ≡ true
 or_true true = refl
@@ -93,22 +101,22 @@ or_false false = refl
 cut_passed_by : (fresh : Bool) (before : Before) (at column b : ℕ) (rest : List ℕ) (t u : Bool) → is_blank b ≡ t → (b == byte "#" && fresh) ≡ u
     → ((n : ℕ) → cut zero true before at n rest ≡ cut zero true before at (n + (length rest - length (passed true rest))) (passed true rest))
     → cut zero fresh before at column (b ∷ rest)
-      ≡ cut zero (fresh || is_blank b) before at (column + (suc (length rest) - length (passed fresh (b ∷ rest)))) (passed fresh (b ∷ rest))
+    ≡ cut zero (fresh || is_blank b) before at (column + (suc (length rest) - length (passed fresh (b ∷ rest)))) (passed fresh (b ∷ rest))
 cut_passed_by fresh before at column b rest true u et eu ih =
     let less : length (passed true rest) ≤ length rest = passed_less true rest in
     let e : column + 1 + (length rest - length (passed true rest)) ≡ column + (suc (length rest) - length (passed true rest)) = omega arith in
     let f : fresh || is_blank b ≡ true = ap (λ t. fresh || t) et ∙ or_true fresh in
     let rests : passed fresh (b ∷ rest) ≡ passed true rest = ap (λ t. cond t (passed true rest) (cond (b == byte "#" && fresh) [] (b ∷ rest))) et in
     let here : cut zero fresh before at column (b ∷ rest) ≡ cut zero true before at (column + 1) rest =
-        ap (λ t. cond t (cut zero true before at (column + 1) rest) (cond (b == byte "#" && fresh) [] (front_piece (front before b rest) at column b rest ∷ cut (front before b rest).size (is_dash (front before b rest)) (after before (front before b rest).kind) at (column + 1) rest))) et in
+    ap (λ t. cond t (cut zero true before at (column + 1) rest) (cond (b == byte "#" && fresh) [] (front_piece (front before b rest) at column b rest ∷ cut (front before b rest).size (is_dash (front before b rest)) (after before (front before b rest).kind) at (column + 1) rest))) et in
     here ∙ ih (column + 1) ∙ ap (λ n. cut zero true before at n (passed true rest)) e
     ∙ ap (λ w. cut zero true before at (column + (suc (length rest) - length w)) w) (sym rests)
     ∙ ap (λ t. cut zero t before at (column + (suc (length rest) - length (passed fresh (b ∷ rest)))) (passed fresh (b ∷ rest))) (sym f)
 cut_passed_by fresh before at column b rest false true et eu ih =
     let rests : passed fresh (b ∷ rest) ≡ [] = ap (λ t. cond t (passed true rest) (cond (b == byte "#" && fresh) [] (b ∷ rest))) et ∙ ap (λ u. cond u [] (b ∷ rest)) eu in
     let here : cut zero fresh before at column (b ∷ rest) ≡ [] =
-        ap (λ t. cond t (cut zero true before at (column + 1) rest) (cond (b == byte "#" && fresh) [] (front_piece (front before b rest) at column b rest ∷ cut (front before b rest).size (is_dash (front before b rest)) (after before (front before b rest).kind) at (column + 1) rest))) et
-        ∙ ap (λ u. cond u [] (front_piece (front before b rest) at column b rest ∷ cut (front before b rest).size (is_dash (front before b rest)) (after before (front before b rest).kind) at (column + 1) rest)) eu in
+    ap (λ t. cond t (cut zero true before at (column + 1) rest) (cond (b == byte "#" && fresh) [] (front_piece (front before b rest) at column b rest ∷ cut (front before b rest).size (is_dash (front before b rest)) (after before (front before b rest).kind) at (column + 1) rest))) et
+    ∙ ap (λ u. cond u [] (front_piece (front before b rest) at column b rest ∷ cut (front before b rest).size (is_dash (front before b rest)) (after before (front before b rest).kind) at (column + 1) rest)) eu in
     here ∙ ap (λ w. cut zero (fresh || is_blank b) before at (column + (suc (length rest) - length w)) w) (sym rests)
 cut_passed_by fresh before at column b rest false false et eu ih =
     let f : fresh || is_blank b ≡ fresh = ap (λ t. fresh || t) et ∙ or_false fresh in
@@ -129,9 +137,9 @@ pub left_passed : (line_at column after_at : ℕ) (fresh fresh' : Bool) (before 
 unfolding left
 left_passed line_at column after_at fresh fresh' before z rest text er ef =
     ap (λ here. continued before here (lines true after_at text))
-      (cut_passed fresh before line_at column z
-       ∙ ap (λ w. cut zero (fresh || begins is_blank z) before line_at (column + (length z - length w)) w) (sym er)
-       ∙ ap (λ t. cut zero t before line_at (column + (length z - length rest)) rest) (sym ef))
+    (cut_passed fresh before line_at column z
+    ∙ ap (λ w. cut zero (fresh || begins is_blank z) before line_at (column + (length z - length w)) w) (sym er)
+    ∙ ap (λ t. cut zero t before line_at (column + (length z - length rest)) rest) (sym ef))
 
 -- and then a piece begins, or the line ends
 abbrev ready : List ℕ → Bool → Type 0
@@ -189,6 +197,7 @@ line_fits_by b rest false et ih =
     let e : line_size (b ∷ rest) ≡ 1 + line_size rest = ap (λ t. cond t 0 (1 + line_size rest)) et in
     let h : length (behind_line (b ∷ rest)) ≡ length (behind_line rest) = ap (λ t. length (cond t rest (behind_line rest))) (line_ends_false b rest et) in
     omega arith
+
 line_fits : (z : List ℕ) → line_size z + length (behind_line z) ≤ length z
 line_fits [] = omega arith
 line_fits (b ∷ rest) = line_fits_by b rest (line_ends b rest) refl (line_fits rest)
@@ -206,9 +215,9 @@ lines_false at (b ∷ rest) =
     let one : at + 1 ≡ at + (suc (length rest) - length rest) = omega arith in
     let more : at + 1 + (length rest - length (behind_line rest)) ≡ at + (suc (length rest) - length (behind_line rest)) = omega arith in
     let skip : lines false (at + 1) rest ≡ lines true (at + (suc (length rest) - length (behind_line rest))) (behind_line rest) =
-        lines_false (at + 1) rest ∙ ap (λ n. lines true n (behind_line rest)) more in
+    lines_false (at + 1) rest ∙ ap (λ n. lines true n (behind_line rest)) more in
     elim (b == 10) as (λ t. lines t (at + 1) rest ≡ lines true (at + (suc (length rest) - length (cond t rest (behind_line rest)))) (cond t rest (behind_line rest)))
-      [ true ↦ ap (λ n. lines true n rest) one | false ↦ skip ]
+    [ true ↦ ap (λ n. lines true n rest) one | false ↦ skip ]
 
 lines_true : (at : ℕ) (z : List ℕ) → 0 < length z → lines true at z ≡ record { at = at; bytes = line z } ∷ lines true (at + (length z - length (behind_line z))) (behind_line z)
 lines_true at [] h = absurd (omega arith)
@@ -217,27 +226,27 @@ lines_true at (b ∷ rest) h = ap (λ w. record { at = at; bytes = line (b ∷ r
 -- a line is opened
 opens : (k : Class) (before : Before) (l : Line) (ls : List Line)
     → (option_to_list (opening k before l) ++ cut zero true before l.at 0 (content k l.bytes)) ++ pieces (after_all before (option_to_list (opening k before l) ++ cut zero true before l.at 0 (content k l.bytes))) ls
-      ≡ option_to_list (opening k before l) ++ continued (opened k before) (cut zero true (opened k before) l.at 0 (content k l.bytes)) ls
+    ≡ option_to_list (opening k before l) ++ continued (opened k before) (cut zero true (opened k before) l.at 0 (content k l.bytes)) ls
 opens Begins before l ls = refl
 opens Skipped before l ls = refl
 opens OutsideLine before l ls = refl
 opens Ends before l ls = refl
 opens Body before l ls =
     elim (in_flow before) as (λ t. (option_to_list (cond t None (Some (indentation Indent l))) ++ cut zero true before l.at 0 l.bytes) ++ pieces (after_all before (option_to_list (cond t None (Some (indentation Indent l))) ++ cut zero true before l.at 0 l.bytes)) ls
-      ≡ option_to_list (cond t None (Some (indentation Indent l))) ++ continued before (cut zero true before l.at 0 l.bytes) ls) [ true ↦ refl | false ↦ refl ]
+    ≡ option_to_list (cond t None (Some (indentation Indent l))) ++ continued before (cut zero true before l.at 0 l.bytes) ls) [ true ↦ refl | false ↦ refl ]
 
 pub left_open : (line_at column after_at : ℕ) (fresh : Bool) (before next : Before) (z line' cut' text rest : List ℕ) (k : Class) (o : Option PieceRecord)
     → z ≡ [] → 0 < length text → line' ≡ line text → rest ≡ behind_line text → k ≡ class_of before line' → o ≡ opening k before (record { at = after_at; bytes = line' })
     → cut' ≡ content k line' → next ≡ opened k before
     → left (place z line_at column fresh text after_at before)
-      ≡ option_to_list o ++ left (place cut' after_at 0 true rest (after_at + (length text - length rest)) next)
+    ≡ option_to_list o ++ left (place cut' after_at 0 true rest (after_at + (length text - length rest)) next)
 unfolding left
 left_open line_at column after_at fresh before next z line' cut' text rest k o ez some el er ek eo ec en =
     let l : Line = record { at = after_at; bytes = line' } in
     let ls = lines true (after_at + (length text - length rest)) rest in
     let texts : lines true after_at text ≡ l ∷ ls =
-        lines_true after_at text some ∙ ap (λ w. record { at = after_at; bytes = w } ∷ lines true (after_at + (length text - length (behind_line text))) (behind_line text)) (sym el)
-        ∙ ap (λ w. l ∷ lines true (after_at + (length text - length w)) w) (sym er) in
+    lines_true after_at text some ∙ ap (λ w. record { at = after_at; bytes = w } ∷ lines true (after_at + (length text - length (behind_line text))) (behind_line text)) (sym el)
+    ∙ ap (λ w. l ∷ lines true (after_at + (length text - length w)) w) (sym er) in
     ap (λ w. continued before (cut zero fresh before line_at column w) (lines true after_at text)) ez
     ∙ ap (λ w. pieces before w) texts
     ∙ ap (λ k. (option_to_list (opening k before l) ++ cut zero true before after_at 0 (content k line')) ++ pieces (after_all before (option_to_list (opening k before l) ++ cut zero true before after_at 0 (content k line'))) ls) (sym ek)
@@ -274,9 +283,9 @@ takes line_at column after_at b fresh dash before next z bytes line rest text f 
     let new = place line line_at (column + (1 + f.size)) dash text after_at next in
     let P : Place → Type 0 = λ o. o.line ≡ b ∷ rest → begins_piece o.fresh o.line ≡ true → (left o ≡ piece ∷ left new) × (work new < work o) in
     let here : P (place z line_at column fresh text after_at before) = λ e h.
-        let long : length z ≡ suc (length rest) = ap length e in
-        let short : length line ≤ length rest = omega (arith, ap length el, length-drop f.size rest) in
-        (left_take line_at column after_at b fresh dash before next z bytes line rest text f e h ef eb el ed en ∙ ap (λ p. p ∷ left new) (sym ep), omega arith) in
+    let long : length z ≡ suc (length rest) = ap length e in
+    let short : length line ≤ length rest = omega (arith, ap length el, length-drop f.size rest) in
+    (left_take line_at column after_at b fresh dash before next z bytes line rest text f e h ef eb el ed en ∙ ap (λ p. p ∷ left new) (sym ep), omega arith) in
     subst P view here ez begins
 
 pub line_opened : (line_at column after_at n : ℕ) (fresh : Bool) (before next : Before) (z line' cut' text rest : List ℕ) (k : Class) (o : Option PieceRecord) (old : Place)
@@ -290,8 +299,8 @@ line_opened line_at column after_at n fresh before next z line' cut' text rest k
     let fits : n + length rest ≤ length text = line_behind text rest n er esize in
     let whole : line' ≡ line text = el ∙ ap (λ m. take m text) esize in
     let here : P (place z line_at column fresh text after_at before) = λ e h.
-        opens_by o (place z line_at column fresh text after_at before) new
-          (left_open line_at column after_at fresh before next z line' cut' text rest k o e h whole er ek eo ec en) (less h) (omega arith) in
+    opens_by o (place z line_at column fresh text after_at before) new
+    (left_open line_at column after_at fresh before next z line' cut' text rest k o e h whole er ek eo ec en) (less h) (omega arith) in
     subst P view here ez some
 
 -- nothing is left at the text's end

@@ -1,5 +1,5 @@
 -- Turns of the pass that finds the fault of the pieces.
-use Rattle.std.proofs.Common.{◌≡◌, ℕ, zero, suc, ◌+◌, ◌-◌, ◌<◌, ◌≤◌, Bool, true, false, cond, ◌&&◌, ◌||◌, ◌==◌, nat_lt, nat_le, List, [], ◌∷◌, ◌++◌, Option, Some, None, refl, ap, sym, ◌∙◌, arith, append_assoc, append-nil}
+use Rattle.std.proofs.Common.{◌≡◌, ℕ, zero, suc, ◌+◌, ◌-◌, ◌≤◌, Bool, true, false, cond, ◌&&◌, ◌||◌, ◌==◌, nat_lt, nat_le, List, [], ◌∷◌, ◌++◌, Option, Some, None, refl, ap, sym, ◌∙◌, arith, append_assoc, append-nil}
 use Rattle.std.specs.List.{filter_map, cons_option}
 use Rattle.std.specs.Option.{option_to_list}
 use Rattle.std.proofs.lemmas.Bool.Decides.{nat_tests}
@@ -36,9 +36,9 @@ stays_more zero ps h = let e : false ≡ true = h in cc
 stays_more (suc n) [] h = refl
 stays_more (suc n) (p ∷ ps) h =
     elim (step_of p.kind)
-      as (λ s. (elim s [ Up ↦ stays_open (suc (suc n)) ps | Down ↦ stays_open n ps | Same ↦ stays_open (suc n) ps | Fresh ↦ true ]) ≡ true
-             → (elim s [ Up ↦ stays_open (suc (suc (suc n))) ps | Down ↦ stays_open (suc n) ps | Same ↦ stays_open (suc (suc n)) ps | Fresh ↦ true ]) ≡ true)
-      [ Up ↦ λ q. stays_more (suc (suc n)) ps q | Down ↦ λ q. stays_more n ps q | Same ↦ λ q. stays_more (suc n) ps q | Fresh ↦ λ q. refl ] h
+    as (λ s. (elim s [ Up ↦ stays_open (suc (suc n)) ps | Down ↦ stays_open n ps | Same ↦ stays_open (suc n) ps | Fresh ↦ true ]) ≡ true
+    → (elim s [ Up ↦ stays_open (suc (suc (suc n))) ps | Down ↦ stays_open (suc n) ps | Same ↦ stays_open (suc (suc n)) ps | Fresh ↦ true ]) ≡ true)
+    [ Up ↦ λ q. stays_more (suc (suc n)) ps q | Down ↦ λ q. stays_more n ps q | Same ↦ λ q. stays_more (suc n) ps q | Fresh ↦ λ q. refl ] h
 
 stays_beyond : (n : ℕ) (ps : List PieceRecord) → stays_open 1 ps ≡ true → stays_open (suc n) ps ≡ true
 stays_beyond zero ps h = h
@@ -66,12 +66,13 @@ turn_by s (Open first n) p ps e =
     let G : Step → Option Fault = λ t. cond (S t) (Some (fault_at first NotClosed)) (F t) in
     let P : Step → Type 0 = λ t. G t ≡ found_by (turned_by t (Open first n) (offset p)) ps in
     let up : suc n ≡ n + 1 = omega arith in
-    ap G e ∙ (elim s as P
-      [ Up ↦ outer (stays_open (suc (suc n)) ps) (stays_open 1 ps) (Some (fault_at first NotClosed)) (Some (fault_at (offset p) NotClosed)) (unclosed ps) (stays_beyond (suc n) ps)
-             ∙ ap (λ k. found_by (Open first k) ps) up
+    ap G e ∙ (elim s as P [
+      | Up ↦ outer (stays_open (suc (suc n)) ps) (stays_open 1 ps) (Some (fault_at first NotClosed)) (Some (fault_at (offset p) NotClosed)) (unclosed ps) (stays_beyond (suc n) ps)
+          ∙ ap (λ k. found_by (Open first k) ps) up
       | Down ↦ down n first ps
       | Same ↦ refl
-      | Fresh ↦ refl ])
+      | Fresh ↦ refl
+    ])
 turn_by s (Unclosed first) p ps e =
     let P : Step → Type 0 = λ t. Some (fault_at first NotClosed) ≡ found_by (turned_by t (Unclosed first) (offset p)) ps in
     elim s as P [ Up ↦ refl | Down ↦ refl | Same ↦ refl | Fresh ↦ refl ]
@@ -132,7 +133,7 @@ count_by_step : (s : Step) (b : Brackets) (at : ℕ) → open_count (turned_by s
 count_by_step s Level at = elim s as (λ t. open_count (turned_by t Level at) ≤ 1) [ Up ↦ omega arith | Down ↦ omega arith | Same ↦ omega arith | Fresh ↦ omega arith ]
 count_by_step s (Open first n) at =
     let down : open_count (cond (n == 0) Level (Open first (n - 1))) ≤ n + 1 =
-        elim (n == 0) as (λ t. open_count (cond t Level (Open first (n - 1))) ≤ n + 1) [ true ↦ omega arith | false ↦ omega arith ] in
+    elim (n == 0) as (λ t. open_count (cond t Level (Open first (n - 1))) ≤ n + 1) [ true ↦ omega arith | false ↦ omega arith ] in
     elim s as (λ t. open_count (turned_by t (Open first n) at) ≤ n + 1) [ Up ↦ omega arith | Down ↦ down | Same ↦ omega arith | Fresh ↦ omega arith ]
 count_by_step s (Unclosed first) at = elim s as (λ t. open_count (turned_by t (Unclosed first) at) ≤ 1) [ Up ↦ omega arith | Down ↦ omega arith | Same ↦ omega arith | Fresh ↦ omega arith ]
 

@@ -1,5 +1,5 @@
 -- How a pass over the pieces finds the first bracket that stays open.
-use Rattle.std.specs.Prelude.{ℕ, zero, suc, ◌+◌, ◌-◌, ◌==◌, Option, Some, None, if◌then◌else◌}
+use Rattle.std.specs.Prelude.{ℕ, ◌+◌, ◌-◌, ◌==◌, Option, Some, None, if◌then◌else◌}
 use Rattle.yaml_tokens.specs.Pieces.{PieceRecord}
 use Rattle.yaml_tokens.specs.Faults.{Step, Up, Down, Fresh, Level as Same, step_of, offset, fault_at}
 use Rattle.yaml_tokens.specs.declared.kind.YamlKind.TheVariants.{Unclosed as NotClosed}

@@ -1,5 +1,5 @@
 -- What can be wrong with the pieces of a text and with its bytes, and which of these facts stands.
-use Rattle.std.specs.Prelude.{ℕ, zero, suc, ◌+◌, Bool, true, false, ◌==◌, ◌&&◌, List, [], ◌∷◌, Option, Some, None, option_map, position, if◌then◌else◌}
+use Rattle.std.specs.Prelude.{ℕ, zero, suc, ◌+◌, Bool, true, false, ◌==◌, List, [], ◌∷◌, Option, Some, None, option_map, position, if◌then◌else◌}
 use Rattle.yaml_tokens.specs.Bytes.{is_bad}
 use Rattle.yaml_tokens.specs.Scalars.{within, bad_escape}
 use Rattle.yaml_tokens.specs.Pieces.{PieceRecord, pieces_of}

@@ -1,6 +1,6 @@
 -- The lines of a text, and the lines that begin and end documents (YAML 1.2, "Line Break Characters",
 -- "Comments", "Document Markers"). A line ends before LF, before CR and LF, or where the text ends.
-use Rattle.std.specs.Prelude.{ℕ, ◌+◌, Bool, true, false, ◌||◌, ◌&&◌, not, ◌==◌, List, [], ◌∷◌, ◌++◌, length, take, drop, nat_le, Option, Some, None, is_some, codes, nat_eq, if◌then◌else◌}
+use Rattle.std.specs.Prelude.{ℕ, ◌+◌, Bool, true, ◌||◌, ◌&&◌, ◌==◌, List, [], ◌∷◌, ◌++◌, length, take, drop, nat_le, Option, Some, None, is_some, codes, nat_eq, if◌then◌else◌}
 use Rattle.std.specs.Str.{byte}
 use Rattle.std.specs.List.{starts_with}
 use Rattle.yaml_tokens.specs.Bytes.{is_blank, begins, blanks}

@@ -67,13 +67,17 @@ parts_quoted before b = b == byte ":" && in_flow before && before.quoted
 unfoldable pub parts : Before → ℕ → List ℕ → Bool
 parts before b rest = b == byte ":" && not (in_flow before && begins is_open rest)
 
+-- outside flow a `-` that begins no plain scalar begins an item
+abbrev pub begins_item : Before → ℕ → Bool
+begins_item before b = b == byte "-" && not (in_flow before)
+
 unfoldable pub leaves_out : ℕ → List ℕ → Bool
 leaves_out b rest = is_left_out b || b == byte "?" && begins is_blank rest
 
 unfoldable pub single_front : Before → ℕ → List ℕ → Front
 single_front before b rest =
     if parts before b rest then record { kind = Colon; size = 0 }
-    else (if b == byte "-" && not (in_flow before) then record { kind = Dash; size = blanks rest }
+    else (if begins_item before b then record { kind = Dash; size = blanks rest }
     else (if leaves_out b rest then record { kind = LeftOut; size = 0 }
     else record { kind = Other; size = 0 }))
 
@@ -113,7 +117,7 @@ cut zero fresh before at column (b ∷ rest) =
     if is_blank b then cut zero true before at (column + 1) rest
     else (if b == byte "#" && fresh then []
     else front_piece (front before b rest) at column b rest
-        ∷ cut (front before b rest).size (is_dash (front before b rest)) (after before (front before b rest).kind) at (column + 1) rest)
+    ∷ cut (front before b rest).size (is_dash (front before b rest)) (after before (front before b rest).kind) at (column + 1) rest)
 
 -- what a line is, by what stands before it
 unfoldable pub class_of : Before → List ℕ → Class

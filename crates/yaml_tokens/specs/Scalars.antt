@@ -1,6 +1,6 @@
 -- Plain and quoted scalars, each on one line (YAML 1.2, "Flow Scalar Styles"). A size counts the bytes
 -- behind the first one.
-use Rattle.std.specs.Prelude.{ℕ, zero, suc, ◌+◌, ◌-◌, Bool, true, false, ◌||◌, ◌&&◌, not, ◌==◌, List, [], ◌∷◌, ◌++◌, length, take, drop, Option, Some, None, option_map, is_none, if◌then◌else◌}
+use Rattle.std.specs.Prelude.{ℕ, zero, suc, ◌+◌, ◌-◌, Bool, true, ◌||◌, ◌&&◌, not, ◌==◌, List, [], ◌∷◌, ◌++◌, length, take, drop, Option, Some, None, option_map, is_none, if◌then◌else◌}
 use Rattle.std.specs.Str.{byte}
 use Rattle.std.specs.Char.{encode_utf8}
 use Rattle.yaml_tokens.specs.Bytes.{is_blank, begins, is_flow, is_quote, is_left_out}

@@ -1,15 +1,14 @@
 -- The tokens of a text. Comments and the lines that end documents leave none.
-use Rattle.std.specs.Prelude.{ℕ, zero, ◌+◌, false, ◌==◌, List, [], ◌∷◌, ◌++◌, length, Option, Some, None, if◌then◌else◌}
+use Rattle.std.specs.Prelude.{ℕ, zero, ◌+◌, false, ◌==◌, List, [], ◌∷◌, length, Option, Some, None, if◌then◌else◌}
 use Rattle.std.specs.Str.{byte}
 use Rattle.std.specs.List.{filter_map}
-use Rattle.yaml_tokens.specs.Bytes.{begins}
 use Rattle.yaml_tokens.specs.Lines.{tag_of}
 use Rattle.yaml_tokens.specs.Scalars.{within, undoubled, unescaped}
 use Rattle.yaml_tokens.specs.Pieces.{PieceRecord, pieces_of}
 use Rattle.yaml_tokens.specs.declared.token.Token.{Token}
 use Rattle.yaml_tokens.specs.declared.token.Token.TheVariants as token
 use Rattle.yaml_tokens.specs.declared.piece.Kind.{Kind}
-use Rattle.yaml_tokens.specs.declared.piece.Kind.TheVariants.{Begin, End, Stray, Line, Open, Close, Colon, Dash, Plain, Single, Double, Unclosed, LeftOut, Other}
+use Rattle.yaml_tokens.specs.declared.piece.Kind.TheVariants.{Begin, End, Stray, Line, Open, Close, Colon, Dash, Plain, Single, Double, Other}
 
 abbrev pub first_byte : List ℕ → ℕ
 first_byte [] = 0

@@ -32,15 +32,20 @@ impl<'a> Model for Cutter<'a> {
     ghost Value = { Place };
 
     ghost view = { λ c. record {
-        line = c.line.now; line_at = c.line_at; column = c.column; fresh = c.fresh;
-        after = c.after.now; after_at = c.after_at; before = c.before } };
+      line = c.line.now;
+      line_at = c.line_at;
+      column = c.column;
+      fresh = c.fresh;
+      after = c.after.now;
+      after_at = c.after_at;
+      before = c.before;
+    } };
 
     ghost invariant = { λ c. Fits c.before c.line_at c.column (length c.line.now) c.after_at (length c.after.now) };
 }
 
 impl<'a> Cutter<'a> {
-    ghost use Rattle.yaml_tokens.specs.Bytes.{is_blank, begins};
-ghost use Rattle.yaml_tokens.specs.Pieces.{pieces_of};
+    ghost use Rattle.yaml_tokens.specs.Pieces.{pieces_of};
     ghost use Rattle.yaml_tokens.specs.Places.{left, work, begins_piece, Cuts, CutsLine, OpensLine, Skips};
 
     /// The place before a text.

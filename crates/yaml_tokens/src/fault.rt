@@ -1,7 +1,7 @@
 //! The fault of a text's tokens.
 
 ghost use Rattle.std.specs.Prelude.{◌≡◌, ◌==◌, ◌<◌, ◌+◌, ◌^◌, ◌-◌, IfSome, length, position};
-ghost use Rattle.yaml_tokens.specs.Faults.{fault_of, bad_byte, piece_fault, own_fault, tab_fault, escape_fault, unclosed};
+ghost use Rattle.yaml_tokens.specs.Faults.{fault_of, bad_byte, piece_fault, own_fault, tab_fault, escape_fault};
 ghost use Rattle.yaml_tokens.specs.Pieces.{pieces_of};
 ghost use Rattle.yaml_tokens.specs.Brackets.{turned, found_in, open_count};
 
@@ -132,7 +132,11 @@ impl Brackets {
         match (self, piece.kind()) {
             (Brackets::Level, Kind::Open) => Brackets::Open(piece.at(), 0),
             (Brackets::Open(at, count), Kind::Open) => Brackets::Open(at, count + 1),
-            (Brackets::Open(at, count), Kind::Close) => if count == 0 { Brackets::Level } else { Brackets::Open(at, count - 1) },
+            (Brackets::Open(at, count), Kind::Close) => if count == 0 {
+                Brackets::Level
+            } else {
+                Brackets::Open(at, count - 1)
+            },
             (Brackets::Open(at, _), Kind::Begin) => Brackets::Unclosed(at),
             (other, _) => other,
         }

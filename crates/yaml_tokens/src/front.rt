@@ -1,8 +1,7 @@
 //! What stands at the front of a line's rest (YAML 1.2, "Flow Styles" and "Block Styles").
 
-ghost use Rattle.std.specs.Prelude.{◌≡◌, ◌≤◌, ◌==◌, not, ◌&&◌, length};
-ghost use Rattle.yaml_tokens.specs.Bytes.{is_open};
-ghost use Rattle.yaml_tokens.specs.Pieces.{closed_by, quoted_front, parts_quoted, parts, leaves_out, single_front, bare_front, front, is_dash, in_flow};
+ghost use Rattle.std.specs.Prelude.{◌≡◌, ◌≤◌, length};
+ghost use Rattle.yaml_tokens.specs.Pieces.{closed_by, quoted_front, parts_quoted, parts, leaves_out, single_front, bare_front, front, is_dash, begins_item};
 
 use crate::byte::{begins_blank, begins_open, blanks, is_close, is_left_out, is_open, is_quote};
 use crate::piece::{Before, Kind};
@@ -38,9 +37,15 @@ pub fn front_of(before: Before, byte: u8, rest: &[u8]) -> Front
     if is_quote(byte) {
         quoted_front(byte, rest)
     } else if is_open(byte) {
-        Front { kind: Kind::Open, size: 0 }
+        Front {
+            kind: Kind::Open,
+            size: 0,
+        }
     } else if is_close(byte) {
-        Front { kind: Kind::Close, size: 0 }
+        Front {
+            kind: Kind::Close,
+            size: 0,
+        }
     } else {
         bare_front(before, byte, rest)
     }
@@ -80,7 +85,10 @@ fn bare_front(before: Before, byte: u8, rest: &[u8]) -> Front
 {
     let flow = before.in_flow();
     if parts_quoted(before, byte) {
-        Front { kind: Kind::Colon, size: 0 }
+        Front {
+            kind: Kind::Colon,
+            size: 0,
+        }
     } else if begins_plain(flow, byte, rest) {
         Front {
             kind: Kind::Plain,
@@ -98,16 +106,25 @@ fn single_front(before: Before, byte: u8, rest: &[u8]) -> Front
     ensures within { result.size ≤ length rest.now }
 {
     if parts(before, byte, rest) {
-        Front { kind: Kind::Colon, size: 0 }
+        Front {
+            kind: Kind::Colon,
+            size: 0,
+        }
     } else if begins_item(before, byte) {
         Front {
             kind: Kind::Dash,
             size: blanks(rest),
         }
     } else if leaves_out(byte, rest) {
-        Front { kind: Kind::LeftOut, size: 0 }
+        Front {
+            kind: Kind::LeftOut,
+            size: 0,
+        }
     } else {
-        Front { kind: Kind::Other, size: 0 }
+        Front {
+            kind: Kind::Other,
+            size: 0,
+        }
     }
 }
 
@@ -129,7 +146,7 @@ fn parts(before: Before, byte: u8, rest: &[u8]) -> bool
 
 // Whether a byte is a `-` outside flow.
 fn begins_item(before: Before, byte: u8) -> bool
-    ensures { result ≡ (byte == 45 && not (in_flow before)) }
+    ensures { result ≡ begins_item before byte }
 {
     byte == b'-' && !before.in_flow()
 }

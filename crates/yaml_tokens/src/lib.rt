@@ -21,5 +21,5 @@ pub use fault::find_fault;
 pub use kind::{Fault, YamlKind};
 pub use token::{Token, tokens};
 
-
-
+#[cfg(test)]
+mod tests;

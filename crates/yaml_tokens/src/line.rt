@@ -111,7 +111,8 @@ fn tag_behind(rest: &[u8]) -> Option<&[u8]>
 pub fn begins_document(line: &[u8]) -> bool
     ensures { result ≡ begins_document line.now }
 {
-    line.starts_with(b"---") && (ends_idle(behind(line, 3)) || tag_behind(behind(line, 3)).is_some())
+    line.starts_with(b"---")
+        && (ends_idle(behind(line, 3)) || tag_behind(behind(line, 3)).is_some())
 }
 
 /// The tag of the document that a line begins.

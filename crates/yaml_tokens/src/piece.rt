@@ -138,7 +138,7 @@ impl<'a> Model for Piece<'a> {
 }
 
 impl<'a> Piece<'a> {
-    ghost use Rattle.yaml_tokens.specs.Pieces.{whole, indentation};
+    ghost use Rattle.yaml_tokens.specs.Pieces.{indentation};
 
     /// The piece with these parts.
     pub fn new(line: usize, column: usize, kind: Kind, bytes: &'a [u8]) -> Piece<'a>

@@ -51,7 +51,9 @@ pub fn begins_plain(flow: bool, byte: u8, rest: &[u8]) -> bool
 fn ends_plain(flow: bool, byte: u8, rest: &[u8]) -> bool
     ensures { result ≡ ends_plain flow byte rest.now }
 {
-    byte == b':' && gap(flow, rest) || is_blank(byte) && begins_with(rest, b'#') || flow && is_flow(byte)
+    byte == b':' && gap(flow, rest)
+        || is_blank(byte) && begins_with(rest, b'#')
+        || flow && is_flow(byte)
 }
 
 /// How many bytes of a plain scalar stand at the front, without blanks at its end.

@@ -1,6 +1,6 @@
 //! Tokens, as the nodes of a document are made of them.
 
-ghost use Rattle.std.specs.Prelude.{◌≡◌, ◌++◌, IfOk, OnOk, option_map};
+ghost use Rattle.std.specs.Prelude.{◌≡◌, ◌++◌, IfOk, OnOk};
 ghost use Rattle.std.specs.Option.{option_to_list};
 ghost use Rattle.yaml_tokens.specs.Tokens.{tokens_of, token_of, indicator_by, text_by, first_byte};
 ghost use Rattle.yaml_tokens.specs.Lines.{tag_of};
@@ -69,10 +69,7 @@ fn token_of(alloc: Global, piece: &Piece) -> Result<Option<Token>, Memory>
     ensures { IfOk result (λ token. token ≡ token_of piece.now) }
 {
     match piece.kind() {
-        Kind::Begin => Ok(Some(Token::Begin(
-            piece.line() as u64,
-            tag_text(alloc, piece.bytes())?,
-        ))),
+        Kind::Begin => Ok(Some(Token::Begin(piece.line() as u64, tag_text(alloc, piece.bytes())?))),
         Kind::End => Ok(None),
         Kind::Stray => Ok(Some(Token::Stray(piece.line() as u64))),
         Kind::Line => Ok(Some(Token::Line(piece.end_column() as u64))),
@@ -80,12 +77,9 @@ fn token_of(alloc: Global, piece: &Piece) -> Result<Option<Token>, Memory>
         Kind::Plain | Kind::Single | Kind::Double => {
             Ok(Some(Token::Scalar(scalar_text(alloc, piece)?)))
         }
-        Kind::Open
-        | Kind::Close
-        | Kind::Colon
-        | Kind::Unclosed
-        | Kind::LeftOut
-        | Kind::Other => Ok(Some(indicator(piece))),
+        Kind::Open | Kind::Close | Kind::Colon | Kind::Unclosed | Kind::LeftOut | Kind::Other => Ok(
+            Some(indicator(piece)),
+        ),
     }
 }
 
@@ -96,9 +90,21 @@ fn indicator(piece: &Piece) -> Token
     let byte = first_byte(piece.bytes());
     match piece.kind() {
         Kind::Colon => Token::Colon,
-        Kind::Open => if byte == b'{' { Token::OpenMap } else { Token::OpenSeq },
-        Kind::Close => if byte == b'}' { Token::CloseMap } else { Token::CloseSeq },
-        Kind::Other => if byte == b',' { Token::Comma } else { Token::Other(byte) },
+        Kind::Open => if byte == b'{' {
+            Token::OpenMap
+        } else {
+            Token::OpenSeq
+        },
+        Kind::Close => if byte == b'}' {
+            Token::CloseMap
+        } else {
+            Token::CloseSeq
+        },
+        Kind::Other => if byte == b',' {
+            Token::Comma
+        } else {
+            Token::Other(byte)
+        },
         _ => Token::Other(byte),
     }
 }

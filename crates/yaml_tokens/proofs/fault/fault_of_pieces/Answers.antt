@@ -14,10 +14,10 @@ loop-piece-init c = record {
 pub loop-piece-preserved : goal.loop-piece-preserved
 loop-piece-preserved c = record {
   least_so_far =
-    least_turn c.loop-piece.fault c.first_of-fault.result c.in-Some.piece _ _ _
+      least_turn c.loop-piece.fault c.first_of-fault.result c.in-Some.piece _ _ _
       (c.first_of-fault.ensures ∙ ap (first_of c.loop-piece.fault) c.own_fault.ensures) c.in-Some.ensures.0 c.loop-piece.invariant.least_so_far;
   unclosed_so_far =
-    found_turn c.loop-piece.brackets c.turn-brackets.result c.in-Some.piece _ _ _ c.turn-brackets.ensures c.in-Some.ensures.0 c.loop-piece.invariant.unclosed_so_far;
+      found_turn c.loop-piece.brackets c.turn-brackets.result c.in-Some.piece _ _ _ c.turn-brackets.ensures c.in-Some.ensures.0 c.loop-piece.invariant.unclosed_so_far;
   count = omega (arith, count_turn c.loop-piece.brackets c.turn-brackets.result c.in-Some.piece c.turn-brackets.ensures, c.in-Some.ensures.1);
 }
 
