@@ -2,9 +2,9 @@
 """Times `ifs stub --output-ifs=-` beside llvm-ifs, on libraries of 1,000 to 1,000,000 symbols.
 
 The libraries are made here, in a temporary folder. Each program runs several times on each, in turns, and the
-best time counts. Ratios within one run of this script tell something; times of two runs don't. Where no llvm-ifs
-is installed, the columns that compare with it stay empty. The status is 1 where a program fails, where the two
-print different texts, or where a bound of BOUNDS is passed.
+best processor time, user and system, counts. Ratios within one run of this script tell something; times of two runs
+don't. Where no llvm-ifs is installed, the columns that compare with it stay empty. The status is 1 where a program
+fails, where the two print different texts, or where a bound below is passed.
 """
 import argparse
 import datetime
@@ -17,7 +17,6 @@ import struct
 import subprocess
 import sys
 import tempfile
-import time
 from pathlib import Path
 from typing import NamedTuple, Optional
 
@@ -132,16 +131,15 @@ class Row(NamedTuple):
 
 
 def run(command, out):
-    """One run of a program: its seconds, and its peak memory in MiB. The memory that is told is at least that of
-    this process, which started it; so libraries are made in another process, and this one stays small."""
-    start = time.perf_counter()
+    """One run of a program: its seconds of processor time, which other work on the machine changes little, and its
+    peak memory in MiB. The memory that is told is at least that of this process, which started it; so libraries are
+    made in another process, and this one stays small."""
     process = subprocess.Popen(command, stdout=out, stdin=subprocess.DEVNULL)
     _, status, usage = os.wait4(process.pid, 0)
-    seconds = time.perf_counter() - start
     process.returncode = os.waitstatus_to_exitcode(status)
     if process.returncode != 0:
         sys.exit(f"{command[0]} ended with {process.returncode}")
-    return seconds, usage.ru_maxrss / 1024
+    return usage.ru_utime + usage.ru_stime, usage.ru_maxrss / 1024
 
 
 def best_of(commands, runs):

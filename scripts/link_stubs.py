@@ -50,19 +50,19 @@ def wants(readelf, program):
 
 
 def try_machine(compiler, folder):
-    """What went wrong, and how many links were compared."""
+    """What went wrong, and the linkers that agree."""
     readelf = "readelf"
-    wrong, links = [], 0
+    wrong, agree = [], []
     (folder / "lib.c").write_text(LIBRARY)
     (folder / "main.c").write_text(CLIENT)
     library, stub = folder / "libsmall.so", folder / "stub/libsmall.so"
     stub.parent.mkdir(exist_ok=True)
     made = run(compiler, "-shared", "-fPIC", "-nostdlib", "-Wl,-soname,libsmall.so", "-o", library, folder / "lib.c")
     if made.returncode:
-        return [f"the library isn't compiled: {made.stderr.strip()}"], 0
+        return [f"the library isn't compiled: {made.stderr.strip()}"], []
     text = run(PROGRAM, "stub", "--output-ifs=-", f"--output-elf={stub}", library)
     if text.returncode:
-        return [text.stderr.strip()], 0
+        return [text.stderr.strip()], []
     warnings = [line for line in run(readelf, "-aW", stub).stderr.splitlines() if line]
     wrong += [f"readelf: {line}" for line in warnings]
     again = folder / "again.so"
@@ -82,10 +82,11 @@ def try_machine(compiler, folder):
         if programs[1][0].returncode:
             wrong.append(f"{linker} refuses the stub: {programs[1][0].stderr.strip()}")
             continue
-        links += 1
         if wants(readelf, programs[0][1]) != wants(readelf, programs[1][1]):
             wrong.append(f"{linker}: the programs differ")
-    return wrong, links
+        else:
+            agree.append(linker)
+    return wrong, agree
 
 
 def main():
@@ -98,8 +99,10 @@ def main():
             print(f"{compiler}: not installed")
             continue
         with tempfile.TemporaryDirectory() as folder:
-            wrong, links = try_machine(compiler, Path(folder))
-        print(f"{compiler}: {links} linkers agree" if not wrong else f"{compiler}: " + "; ".join(wrong))
+            wrong, agree = try_machine(compiler, Path(folder))
+        print(f"{compiler}: {', '.join(agree) or 'no linkers'} agree")
+        for told in wrong:
+            print(f"  {told}")
         status = 1 if wrong else (0 if status == 77 else status)
     return status
 

@@ -1,7 +1,7 @@
 #!/usr/bin/env python3
 """Runs the built `ifs` over the shared libraries of this system, and compares its texts with what readelf says.
 
-    scripts/try_system.py [--program PATH] [--most COUNT] [--segments] [FOLDER ..]
+    scripts/try_system.py [--program PATH] [--most COUNT] [--segments] [--stubs] [FOLDER ..]
 
 It takes each file below the folders, by default the usual ones of libraries and those of Debian's cross packages,
 whose name has `.so` in it and which begins with the magic number of ELF; links aren't followed. It counts what was
@@ -9,8 +9,9 @@ printed and the causes of refusal. Where readelf is installed, target, soname, n
 printed text are compared with what readelf says of the file, by the rules of docs/format/interface.md, which are
 written here once more. With --segments a copy of each library is run too, whose header says that it has no section
 headers. It has to give the same text, but where the library's only hash table, a GNU one, names no row and so
-doesn't tell how many there are. The status is 1 where something differs, or where a run ended otherwise than with a
-text or a line of refusal, and 77 where the built program is missing.
+doesn't tell how many there are. With --stubs the stub of each library is written and read. It has to give the same
+text, but for the types that a stub doesn't tell. The status is 1 where something differs, or where a run ended
+otherwise than with a text or a line of refusal, and 77 where the built program is missing.
 """
 import argparse
 import collections
@@ -19,7 +20,6 @@ import itertools
 import os
 import re
 import shutil
-import struct
 import subprocess
 import sys
 import tempfile
@@ -28,8 +28,9 @@ from pathlib import Path
 TOP = Path(__file__).resolve().parent.parent
 FOLDERS = ["/lib", "/lib32", "/lib64", "/libx32", "/usr/lib", "/usr/lib32", "/usr/lib64", "/usr/libx32",
            "/usr/local", "/opt", *sorted(glob.glob("/usr/*-linux-*/lib"))]
-ARCHITECTURES = {2: "sparc", 3: "i386", 8: "mips", 20: "ppc", 21: "ppc64", 22: "s390", 40: "arm", 43: "sparcv9",
-                 62: "x86_64", 183: "AArch64", 243: "riscv"}
+MACHINES = {"AArch64": "AArch64", "ARM": "arm", "Advanced Micro Devices X86-64": "x86_64", "IBM S/390": "s390",
+            "Intel 80386": "i386", "MIPS R3000": "mips", "PowerPC": "ppc", "PowerPC64": "ppc64", "RISC-V": "riscv",
+            "Sparc": "sparc", "Sparc v9": "sparcv9"}
 SHOWN = 20  # differences of one library that are shown
 
 
@@ -139,13 +140,12 @@ def described(rows):
 
 
 def target_of(path):
-    """The target by the bytes of the file header."""
-    with open(path, "rb") as file:
-        head = file.read(20)
-    is_little = head[5] == 1
-    machine, = struct.unpack("<H" if is_little else ">H", head[18:])
-    return {"ObjectFormat": "ELF", "Arch": ARCHITECTURES.get(machine, f"EM_{machine}"),
-            "Endianness": "little" if is_little else "big", "BitWidth": "64" if head[4] == 2 else "32"}
+    """The target by the file header."""
+    told = dict(re.findall(r"^  (Class|Data|Machine):\s+(.*)$", readelf(path, "-h"), re.M))
+    number = re.search(r"<unknown>: 0x([0-9a-f]+)", told["Machine"])
+    arch = f"EM_{int(number[1], 16)}" if number else MACHINES.get(told["Machine"], told["Machine"])
+    return {"ObjectFormat": "ELF", "Arch": arch, "Endianness": "little" if "little" in told["Data"] else "big",
+            "BitWidth": told["Class"].removeprefix("ELF")}
 
 
 def by_readelf(path):
@@ -185,7 +185,7 @@ class Tally:
     def __init__(self, args):
         self.args, self.compares = args, shutil.which("readelf") is not None
         self.printed, self.refused = 0, collections.Counter()
-        self.differing, self.wrong, self.same_copies, self.uncounted = 0, 0, 0, 0
+        self.differing, self.wrong, self.same_copies, self.uncounted, self.same_stubs = 0, 0, 0, 0, 0
 
     def run(self, path):
         return subprocess.run([self.args.program, "stub", "--output-ifs=-", path], capture_output=True)
@@ -197,6 +197,8 @@ class Tally:
             self.take_text(path, done.stdout)
             if self.args.segments:
                 self.take_copy(path, copy, done.stdout)
+            if self.args.stubs:
+                self.take_stub(path, copy, done.stdout)
         elif done.returncode in (1, 3) and not done.stdout:
             cause = cause_of(done.stderr, path)
             self.refused[cause] += 1
@@ -225,6 +227,15 @@ class Tally:
             lines = f"{done.stdout.count(10)} lines for {text.count(10)}"
             print(f"differs: {path}: by segments status {done.returncode}, {lines}")
 
+    def take_stub(self, path, copy, text):
+        written = subprocess.run([self.args.program, "stub", f"--output-elf={copy}", path], capture_output=True)
+        done = self.run(str(copy))
+        if written.returncode == 0 and done.stdout == text.replace(b", Type: Unknown", b", Type: NoType"):
+            self.same_stubs += 1
+        else:
+            self.differing += 1
+            print(f"differs: {path}: by its stub, {written.stderr!r}, {done.stderr!r}")
+
     def told(self):
         yield f"{self.printed} printed, {sum(self.refused.values())} refused, {self.wrong} ended otherwise"
         for cause, count in self.refused.most_common():
@@ -233,6 +244,8 @@ class Tally:
         if self.args.segments:
             yield (f"{self.same_copies} have the same text by segments, "
                    f"{self.uncounted} no hash table that counts their rows")
+        if self.args.stubs:
+            yield f"{self.same_stubs} have the same text by their stubs"
 
 
 def counts_no_row(path, text):
@@ -261,6 +274,7 @@ def words():
     parser.add_argument("--program", default=str(TOP / "crates/ifs/out/ifs"), help="the built program")
     parser.add_argument("--most", type=int, help="stop after that many libraries")
     parser.add_argument("--segments", action="store_true", help="run a copy without section headers too")
+    parser.add_argument("--stubs", action="store_true", help="write and read the stub of each library too")
     parser.add_argument("folders", nargs="*", default=FOLDERS, metavar="FOLDER")
     return parser.parse_args()
 

@@ -1,0 +1,10 @@
+pub mod Bytes
+pub mod Lines
+pub mod Scalars
+pub mod Escapes
+pub mod Pieces
+pub mod Least
+pub mod Faults
+pub mod Brackets
+pub mod Tokens
+pub mod Places

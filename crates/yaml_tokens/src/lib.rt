@@ -1,0 +1,25 @@
+//! The tokens of the YAML profile that text stubs are written in (YAML 1.2, chapters 5 to 7): where its
+//! documents begin, how their lines are cut into comments, indicators and scalars, and what of that the
+//! profile refuses.
+//!
+//! `find_fault` and `tokens` stand on one cutter, which goes over the bytes once. The finder takes no memory
+//! and goes first; the tokens keep nothing of the text but their scalars and tags.
+#![tactic(auto)]
+
+mod byte;
+mod cutter;
+mod escape;
+mod fault;
+mod front;
+mod kind;
+mod line;
+mod piece;
+mod scalar;
+mod token;
+
+pub use fault::find_fault;
+pub use kind::{Fault, YamlKind};
+pub use token::{Token, tokens};
+
+#[cfg(test)]
+mod tests;
