@@ -21,7 +21,7 @@ from pathlib import Path
 from typing import NamedTuple, Optional
 
 TOP = Path(__file__).resolve().parent.parent
-SIZES = {1_000: 31, 10_000: 31, 100_000: 15, 500_000: 7, 1_000_000: 9}  # symbols: runs
+SIZES = {1_000: 31, 10_000: 31, 100_000: 31, 500_000: 7, 1_000_000: 9}  # symbols: runs
 MARKS = ("<!-- bench/stub.py fills this -->", "<!-- up to here -->")
 
 # What is wanted: of the time of llvm-ifs a quarter for a small library and all of it for a larger one, at most
