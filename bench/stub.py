@@ -21,7 +21,7 @@ from pathlib import Path
 from typing import NamedTuple, Optional
 
 TOP = Path(__file__).resolve().parent.parent
-SIZES = {1_000: 15, 10_000: 11, 100_000: 7, 500_000: 3, 1_000_000: 3}  # symbols: runs
+SIZES = {1_000: 31, 10_000: 31, 100_000: 15, 500_000: 7, 1_000_000: 9}  # symbols: runs
 MARKS = ("<!-- bench/stub.py fills this -->", "<!-- up to here -->")
 
 # What is wanted: of the time of llvm-ifs a quarter for a small library and all of it for a larger one, at most
@@ -237,8 +237,8 @@ def first_match(pattern, text, otherwise):
     return found.group(1).strip() if found else otherwise
 
 
-def machine(peer):
-    """The day and the machine, in words."""
+def machine(peer, load):
+    """The day and the machine, in words, with its load before the runs."""
     processor = first_match(r"^model name\s*: (.*)$", Path("/proc/cpuinfo").read_text(), "unknown processors")
     system = first_match(r'^PRETTY_NAME="(.*)"$', Path("/etc/os-release").read_text(), "Linux")
     memory = os.sysconf("SC_PAGE_SIZE") * os.sysconf("SC_PHYS_PAGES") / 2**30
@@ -247,8 +247,9 @@ def machine(peer):
         told = subprocess.run([peer, "--version"], capture_output=True, text=True).stdout
         beside = "llvm-ifs of LLVM " + first_match(r"LLVM version (\S+)", told, "?")
     day = datetime.date.today()
+    busy = " Other work ran on all processors." if load > os.cpu_count() else ""
     return (f"Measured on {day.day} {day:%B %Y}: {os.cpu_count()} processors ({processor}), "
-            f"{memory:.0f} GiB of memory, {system}, {beside}.")
+            f"{memory:.0f} GiB of memory, {system}, {beside}.{busy}")
 
 
 def fill(readme, text):
@@ -273,11 +274,11 @@ def main():
     if args.make:
         Path(args.make[1]).write_bytes(library(int(args.make[0])))
         return 0
-    peer = find_peer()
+    peer, load = find_peer(), os.getloadavg()[0]
     floor = best_of([["true"]], 3)[0].mib
     with tempfile.TemporaryDirectory() as folder:
         rows = [measured(args.program, peer, n, runs, folder) for n, runs in SIZES.items() if n <= args.most]
-    text = f"{table(rows, floor)}\n\n{machine(peer)}"
+    text = f"{table(rows, floor)}\n\n{machine(peer, load)}"
     print(text)
     for row in rows:
         beside = f", llvm-ifs {row.peer.seconds * 1000:.1f} ms and {row.peer.mib:.0f} MiB" if row.peer else ""

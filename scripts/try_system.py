@@ -10,8 +10,8 @@ printed text are compared with what readelf says of the file, by the rules of do
 written here once more. With --segments a copy of each library is run too, whose header says that it has no section
 headers. It has to give the same text, but where the library's only hash table, a GNU one, names no row and so
 doesn't tell how many there are. With --stubs the stub of each library is written and read. It has to give the same
-text, but for the types that a stub doesn't tell. The status is 1 where something differs, or where a run ended otherwise than with a
-text or a line of refusal, and 77 where the built program is missing.
+text, but for the types that a stub doesn't tell. The status is 1 where something differs, or where a run ended
+otherwise than with a text or a line of refusal, and 77 where the built program is missing.
 """
 import argparse
 import collections
