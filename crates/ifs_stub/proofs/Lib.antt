@@ -6,3 +6,4 @@ pub mod Pointed
 pub mod Sorting
 pub mod Fits
 pub mod SymbolRows
+pub mod FileSize
