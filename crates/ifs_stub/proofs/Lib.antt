@@ -8,3 +8,4 @@ pub mod Sorting
 pub mod RankedOrder
 pub mod Fits
 pub mod SymbolRows
+pub mod FileSize

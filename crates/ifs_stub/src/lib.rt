@@ -16,6 +16,7 @@ mod dynamic;
 mod hash;
 mod headers;
 mod interface;
+mod laws;
 mod layout;
 mod limits;
 mod ranked;
@@ -27,6 +28,7 @@ mod symbols;
 pub use cause::{StubCause, TargetField};
 pub use collapse::symbols_of;
 pub use interface::extract;
+pub use laws::stubs_have_their_size;
 pub use stub::emit;
 
 #[cfg(test)]

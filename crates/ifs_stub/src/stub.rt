@@ -1,6 +1,6 @@
 //! The stub file of an interface.
 
-ghost use Rattle.std.specs.Prelude.{◌≡◌, ◌+◌, ◌≤◌, ◌++◌, length, IfOk, OnOk};
+ghost use Rattle.std.specs.Prelude.{◌≡◌, ◌+◌, ◌<◌, ◌≤◌, ◌++◌, length, IfOk, OnOk};
 ghost use Rattle.ifs_bytes.specs.Outcome.{UnlessMemory};
 ghost use Rattle.ifs_stub.specs.StubFile.{needed_name_bytes, file_by, stub_file};
 ghost use Rattle.ifs_stub.specs.Stub.{HasNoWideSize, IsWithin, stub_of, bytes_of};
@@ -41,10 +41,12 @@ fn put_file(out: &mut Vec<u8>, interface: &Interface, plan: &Plan) -> Result<(),
 }
 
 // The file of an interface within the limits, in a vector with the room for it.
+#[tactic(auto, using(crate::proofs::FileSize::length_is_small))]
 fn file_of(alloc: Global, interface: &Interface, form: Form) -> Result<Vec<u8>, Memory>
     requires sizes { HasNoWideSize form.width interface.now.symbols }
     requires within { IsWithin interface.now }
-    ensures { IfOk result (λ out. out.items ≡ stub_file form.order form.width form.machine interface.now) }
+    ensures exact { IfOk result (λ out. out.items ≡ stub_file form.order form.width form.machine interface.now) }
+    ensures small { IfOk result (λ out. length out.items < 75497472) }
 {
     let plan = plan_of(interface, form);
     let size = plan.layout.sections as usize + 6 * section_size(form.width);
@@ -57,10 +59,12 @@ fn file_of(alloc: Global, interface: &Interface, form: Form) -> Result<Vec<u8>, 
 /// says, for the target's byte order and width. It is refused, in this order, with `TargetIncomplete` of the
 /// first of machine, width and order that the target doesn't give; `SizeTooWide` of the first symbol whose
 /// size is 2^32 or more at a width of 32 bits; `TooManySymbols` above 1,000,000 symbols and needed libraries;
-/// and `NamesTooLarge` where the names have more than 33,554,432 bytes together.
+/// and `NamesTooLarge` where the names have more than 33,554,432 bytes together. The file has less than
+/// 75,497,472 bytes.
 #[tactic(auto, unfolding(crate::specs::Stub::stub_of))]
 pub fn emit(alloc: Global, interface: &Interface) -> Result<Vec<u8>, StubCause>
-    ensures { UnlessMemory StubCause.Memory (bytes_of result) (stub_of interface.now) }
+    ensures exact { UnlessMemory StubCause.Memory (bytes_of result) (stub_of interface.now) }
+    ensures small { IfOk result (λ out. length out.items < 75497472) }
 {
     let form = form_of(parts(interface.target()))?;
     check_sizes(alloc, interface.symbols(), form.width)?;
