@@ -2,6 +2,7 @@
 -- the GNU one. Hash words have 32 bits; the words of the GNU table's Bloom filter have the file's width.
 use Rattle.std.specs.Prelude.{ℕ, zero, suc, ◌+◌, ◌-◌, ◌*◌, ◌%◌, ◌^◌, min, Bool, true, ◌==◌, nat_lt, if◌then◌else◌, List, [], ◌∷◌, length, max, Option, Some, None, Result, Ok, Err}
 use Rattle.std.specs.List.{find, list_all, fold}
+use Rattle.ifs_bytes.specs.Carried.{carried}
 use Rattle.ifs_bytes.specs.Field.{lies, number_at, word_size}
 use Rattle.ifs_bytes.specs.Outcome.{◌>>=◌}
 use Rattle.ifs_bytes.specs.declared.form.Order.{Order}
@@ -9,10 +10,6 @@ use Rattle.ifs_bytes.specs.declared.form.Width.{Width}
 use Rattle.ifs_bytes.specs.Places.{places}
 use Rattle.elf_file.specs.declared.cause.ElfCause.{ElfCause}
 use Rattle.elf_file.specs.declared.cause.ElfCause.TheVariants.{Truncated}
-
--- a cause carries an offset of 2^64 or more as 2^64 - 1
-abbrev pub carried : ℕ → ℕ
-carried at = min at (2 ^ 64 - 1)
 
 -- the hash word at an offset
 unfoldable pub word_in : List ℕ → Order → ℕ → Result ℕ ElfCause

@@ -13,7 +13,7 @@ use Rattle.elf_dyn.specs.Sections.{first_section, places_by_sections}
 use Rattle.elf_dyn.specs.Segments.{places_by_segments}
 use Rattle.elf_dyn.specs.Entries as entries
 use Rattle.elf_dyn.specs.Entries.{EntriesLie, entry_count, bad_entry, soname_of, needed_of, needed_bytes, needed_count, defines_versions}
-use Rattle.elf_dyn.specs.Hash.{carried}
+use Rattle.ifs_bytes.specs.Carried.{carried}
 use Rattle.elf_dyn.specs.Rows as rows
 use Rattle.elf_dyn.specs.Rows.{RowsLie, candidate_count, bad_row, candidate_bytes, visible_rows}
 use Rattle.elf_dyn.specs.Strings.{StringsLie, bytes_of}

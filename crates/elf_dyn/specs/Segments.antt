@@ -21,7 +21,8 @@ use Rattle.elf_dyn.specs.declared.addresses.HashTable.TheVariants.{SysV, Gnu}
 use Rattle.elf_dyn.specs.declared.places.Places.{Places}
 use Rattle.elf_dyn.specs.declared.constants.TheConstants.{PT_LOAD, PT_DYNAMIC, DT_HASH, DT_STRTAB, DT_SYMTAB, DT_STRSZ, DT_GNU_HASH}
 use Rattle.elf_dyn.specs.Entries.{entry_count, value_with}
-use Rattle.elf_dyn.specs.Hash.{carried, rows_by_hash, rows_by_gnu_hash}
+use Rattle.ifs_bytes.specs.Carried.{carried}
+use Rattle.elf_dyn.specs.Hash.{rows_by_hash, rows_by_gnu_hash}
 
 -- the first segment that passes
 abbrev pub first_segment : List ℕ → Header → (Segment → Bool) → Option Segment

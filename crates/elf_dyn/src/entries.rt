@@ -3,7 +3,7 @@
 ghost use Rattle.std.specs.Prelude.{◌≡◌, ◌==◌, ◌&&◌, ◌<◌, ◌≤◌, ◌++◌, is_none, IfOk, IfSome, OnOk, Result};
 ghost use Rattle.std.specs.Option.{option_copied, option_to_list};
 ghost use Rattle.elf_dyn.specs.Entries.{EntriesLie, entry, entry_name, is_named, is_place, entry_count, first_with, value_with, bad_entry, unless_bad, soname_of, needed_at, needed_of, needed_bytes, needed_count};
-ghost use Rattle.elf_dyn.specs.Hash.{carried};
+ghost use Rattle.ifs_bytes.specs.Carried.{carried};
 ghost use Rattle.elf_dyn.specs.Strings.{StringsLie, bytes_of};
 
 use crate::constants::{DT_NEEDED, DT_NULL, DT_SONAME};

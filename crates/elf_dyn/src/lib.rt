@@ -17,6 +17,7 @@ mod sections;
 mod segments;
 mod strings;
 
+pub use constants::{MOST_NAME_BYTES, MOST_ROWS};
 pub use elf_file::{ElfCause, NamePlace};
 pub use ifs_interface::DynRow;
 pub use library::Library;

@@ -44,7 +44,11 @@ impl Model for Library {
 }
 
 impl Library {
-    /// The library in the bytes of a file, or the first cause why it can't be read.
+    /// The library in the bytes of a file, or the first cause why it can't be read: a cause of `Elf::parse`;
+    /// WrongKind, the file is no shared object; NoDynamic, Truncated or BadHeader, its dynamic entries, their
+    /// strings, its symbols or theirs have no place in the file; BadName of the soname or a needed library;
+    /// TooMany, candidate rows and needed libraries are more than `MOST_ROWS`; BadName of a row; NamesTooLarge,
+    /// all names have more than `MOST_NAME_BYTES` bytes.
     #[tactic(auto, unfolding(crate::specs::Library::library_of))]
     pub fn parse(alloc: Global, bytes: &[u8]) -> Result<Library, ElfCause>
         ensures { UnlessMemory ElfCause.Memory result (library_of bytes.now) }

@@ -2,7 +2,7 @@
 
 ghost use Rattle.std.specs.Prelude.{◌≡◌, ◌&&◌, ◌<◌, ◌≤◌, ◌+◌, ◌++◌, is_none, option_map, IfOk, OnOk, Result};
 ghost use Rattle.std.specs.Option.{option_copied, option_to_list};
-ghost use Rattle.elf_dyn.specs.Hash.{carried};
+ghost use Rattle.ifs_bytes.specs.Carried.{carried};
 ghost use Rattle.elf_dyn.specs.Rows.{RowsLie, row, row_name, binding_of, type_of, is_candidate, candidate_count, bad_row, unless_bad, candidate_size, candidate_bytes, named_row, visible_row, visible_rows};
 ghost use Rattle.elf_dyn.specs.Strings.{StringsLie};
 

@@ -8,7 +8,8 @@ ghost use Rattle.elf_dyn.specs.Strings.{StringsLie};
 
 use crate::constants::SHT_STRTAB;
 use crate::places::{Entries, Places, Rows, Strings};
-use elf_file::{Elf, ElfCause, SectionHeader, dynamic_size, has_room, symbol_size};
+use elf_file::{Elf, ElfCause, SectionHeader, dynamic_size, symbol_size};
+use ifs_bytes::has_room;
 
 // The section with the number `i`.
 fn section(elf: &Elf, i: u64) -> SectionHeader

@@ -14,7 +14,8 @@ use crate::entries::entry_count;
 use crate::hash::{rows_by_gnu_hash, rows_by_hash};
 use crate::places::{Entries, Places, Rows, Strings};
 use crate::sections::record_count;
-use elf_file::{Elf, ElfCause, Segment, dynamic_size, has_room, symbol_size};
+use elf_file::{Elf, ElfCause, Segment, dynamic_size, symbol_size};
+use ifs_bytes::has_room;
 
 // The segment with the number `i`.
 fn segment(elf: &Elf, i: u64) -> Segment

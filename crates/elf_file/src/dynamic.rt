@@ -6,10 +6,9 @@ ghost use Rattle.ifs_bytes.specs.Outcome.{appended};
 ghost use Rattle.elf_file.specs.Tables.{dynamic_size, dynamic_at};
 ghost use Rattle.elf_file.specs.Written.{FitsDyn, dynamic_bytes};
 
-use crate::fields::has_room;
 use crate::put::{put_fields, word};
 use crate::sizes;
-use ifs_bytes::{Memory, Order, Width, word_at};
+use ifs_bytes::{Memory, Order, Width, has_room, word_at};
 
 /// A dynamic entry, Elf32_Dyn or Elf64_Dyn.
 #[derive(Clone, Copy, Debug, PartialEq, Eq)]

@@ -1,7 +1,7 @@
 //! Fields that several records have need of, and those of the file header as they stand.
 
 ghost use Rattle.std.specs.Prelude.{◌≡◌, ◌+◌, ◌*◌, ◌<◌, ◌≤◌, length};
-ghost use Rattle.ifs_bytes.specs.Field.{lies, number_at};
+ghost use Rattle.ifs_bytes.specs.Field.{number_at};
 ghost use Rattle.ifs_bytes.specs.declared.form.Order.{Order};
 ghost use Rattle.elf_file.specs.Tables.{header_size, file_header_at};
 
@@ -14,13 +14,6 @@ pub fn byte_at(bytes: &[u8], at: usize) -> u8
     ensures { (order : Order) → result ≡ number_at bytes.now at 1 order }
 {
     bytes[at]
-}
-
-/// Whether `count` records of `size` bytes stand from the offset `at`.
-pub fn has_room(bytes: &[u8], at: u64, count: u64, size: usize) -> bool
-    ensures { result ≡ lies bytes.now at (count * size) }
-{
-    u128::from(at) + u128::from(count) * size as u128 <= bytes.len() as u128
 }
 
 /// The fields of the file header behind e_ident, as they stand.

@@ -8,12 +8,12 @@ ghost use Rattle.elf_file.specs.Tables as tables;
 ghost use Rattle.elf_file.specs.Written.{FitsHeader, header_bytes, ident_bytes};
 
 use crate::cause::ElfCause;
-use crate::fields::{FileHeader, file_header_at, has_room};
+use crate::fields::{FileHeader, file_header_at};
 use crate::form::Form;
 use crate::put::{Field, put_fields, word};
 use crate::section::section_header_at;
 use crate::sizes::{header_size, section_size, segment_size};
-use ifs_bytes::{Memory, Order, Width};
+use ifs_bytes::{Memory, Order, Width, has_room};
 
 /// What the file header says. The numbers of program and section headers are those that count, whichever
 /// field they stand in.

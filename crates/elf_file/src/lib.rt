@@ -25,7 +25,6 @@ mod symbol;
 pub use cause::{ElfCause, NamePlace};
 pub use dynamic::{Dyn, dyn_at, dynamic_entry_at, put_dyn};
 pub use elf::Elf;
-pub use fields::has_room;
 pub use header::{Header, put_header};
 pub use laws::{headers_are_read_back, records_are_read_back, sizes_are_kept};
 pub use section::{SectionHeader, put_section};

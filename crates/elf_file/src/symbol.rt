@@ -6,11 +6,11 @@ ghost use Rattle.ifs_bytes.specs.Outcome.{appended};
 ghost use Rattle.elf_file.specs.Tables.{symbol_size, symbol_at};
 ghost use Rattle.elf_file.specs.Written.{FitsRow, symbol_bytes};
 
-use crate::fields::{byte_at, has_room};
+use crate::fields::byte_at;
 use crate::put::{Field, put_fields, word};
 use crate::sizes;
 use crate::sizes::info_place;
-use ifs_bytes::{Memory, Order, Width, u16_at, u32_at, word_at};
+use ifs_bytes::{Memory, Order, Width, has_room, u16_at, u32_at, word_at};
 
 /// A row of a symbol table, Elf32_Sym or Elf64_Sym.
 #[derive(Clone, Copy, Debug, PartialEq, Eq)]

@@ -1,3 +1,4 @@
+pub mod Carried
 pub mod Field
 pub mod Name
 pub mod Outcome

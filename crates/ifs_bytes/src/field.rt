@@ -58,20 +58,18 @@ pub fn word_at(bytes: &[u8], at: usize, order: Order, width: Width) -> u64
     }
 }
 
-// Whether `size` bytes, at most eight, stand from the offset `at`.
-fn has_room(bytes: &[u8], at: u64, size: u64) -> bool
-    requires { size ≤ 8 }
-    ensures { result ≡ lies bytes.now at size }
+/// Whether `count` records of `size` bytes stand from the offset `at`.
+pub fn has_room(bytes: &[u8], at: u64, count: u64, size: usize) -> bool
+    ensures { result ≡ lies bytes.now at (count * size) }
 {
-    let len = bytes.len() as u64;
-    size <= len && at <= len - size
+    u128::from(at) + u128::from(count) * size as u128 <= bytes.len() as u128
 }
 
 /// The number of 16 bits at the offset `at`; None exactly where it doesn't lie in `bytes`.
 pub fn get_u16(bytes: &[u8], at: u64, order: Order) -> Option<u16>
     ensures { result ≡ field bytes.now at 2 order }
 {
-    if has_room(bytes, at, 2) {
+    if has_room(bytes, at, 1, 2) {
         Some(u16_at(bytes, at as usize, order))
     } else {
         None
@@ -82,7 +80,7 @@ pub fn get_u16(bytes: &[u8], at: u64, order: Order) -> Option<u16>
 pub fn get_u32(bytes: &[u8], at: u64, order: Order) -> Option<u32>
     ensures { result ≡ field bytes.now at 4 order }
 {
-    if has_room(bytes, at, 4) {
+    if has_room(bytes, at, 1, 4) {
         Some(u32_at(bytes, at as usize, order))
     } else {
         None
@@ -93,7 +91,7 @@ pub fn get_u32(bytes: &[u8], at: u64, order: Order) -> Option<u32>
 pub fn get_u64(bytes: &[u8], at: u64, order: Order) -> Option<u64>
     ensures { result ≡ field bytes.now at 8 order }
 {
-    if has_room(bytes, at, 8) {
+    if has_room(bytes, at, 1, 8) {
         Some(u64_at(bytes, at as usize, order))
     } else {
         None
@@ -104,7 +102,7 @@ pub fn get_u64(bytes: &[u8], at: u64, order: Order) -> Option<u64>
 pub fn get_word(bytes: &[u8], at: u64, order: Order, width: Width) -> Option<u64>
     ensures { result ≡ field bytes.now at (word_size width) order }
 {
-    if has_room(bytes, at, width.bytes() as u64) {
+    if has_room(bytes, at, 1, width.bytes()) {
         Some(word_at(bytes, at as usize, order, width))
     } else {
         None

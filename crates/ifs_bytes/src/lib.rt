@@ -11,8 +11,8 @@ mod name;
 mod text;
 
 pub use field::{
-    get_u16, get_u32, get_u64, get_word, put_u16, put_u32, put_u64, put_word, u16_at, u32_at,
-    u64_at, word_at,
+    get_u16, get_u32, get_u64, get_word, has_room, put_u16, put_u32, put_u64, put_word, u16_at,
+    u32_at, u64_at, word_at,
 };
 pub use form::{Order, Width};
 pub use list::List;

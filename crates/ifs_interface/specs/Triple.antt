@@ -1,6 +1,6 @@
 -- What a target triple says: its part before the first dash names a machine, a byte order and a width.
-use Rattle.std.specs.Prelude.{ℕ, ◌==◌, nat_eq, Bool, List, [], ◌∷◌, take, position, codes, Option, Some, option_map, option_and_then}
-use Rattle.std.specs.List.{find}
+use Rattle.std.specs.Prelude.{ℕ, ◌==◌, nat_eq, Bool, if◌then◌else◌, List, [], ◌∷◌, take, position, codes, Option, Some, None, option_map, option_and_then}
+use Rattle.std.specs.List.{find, ends_with}
 use Rattle.std.specs.Cmp.Lexicographic.{pointwise}
 use Rattle.ifs_bytes.specs.declared.form.Order.{Order}
 use Rattle.ifs_bytes.specs.declared.form.Order.TheVariants.{Little, Big}
@@ -48,7 +48,15 @@ triple_machines =
 abbrev pub first_part : List ℕ → Option (List ℕ)
 first_part triple = option_map (λ n. take n triple) (position (λ b. b == 45) triple)
 
--- what a triple says, where it is known
+-- what a table says of a name
+abbrev pub fact_among : List (List ℕ × MachineFact) → List ℕ → Option MachineFact
+fact_among table name = option_map (λ e. e.1) (find (λ e. same_name e.0 name) table)
+
+-- the triple of x32, which has the machine of x86-64 and words of 32 bits
+abbrev pub is_x32 : List ℕ → Bool
+is_x32 triple = ends_with nat_eq triple (codes "gnux32")
+
+-- what a triple says, where it is known; x32 isn't
 unfoldable pub parts_of_triple : List ℕ → Option MachineFact
 parts_of_triple triple =
-    option_and_then (λ name. option_map (λ e. e.1) (find (λ e. same_name e.0 name) triple_machines)) (first_part triple)
+    if is_x32 triple then None else option_and_then (fact_among triple_machines) (first_part triple)

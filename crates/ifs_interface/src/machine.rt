@@ -1,18 +1,21 @@
 //! What a target or a triple says of a machine.
 
 ghost use Rattle.std.specs.Prelude.{◌≡◌, ◌==◌, Some, drop, position};
-ghost use Rattle.ifs_interface.specs.Triple.{same_name, triple_machines, parts_of_triple};
-ghost use Rattle.ifs_interface.specs.Parts.{parts_of, fact_among};
+ghost use Rattle.ifs_interface.specs.Triple.{same_name, triple_machines, fact_among, is_x32, parts_of_triple};
+ghost use Rattle.ifs_interface.specs.Parts.{parts_of};
 
 use crate::target::{MachineFact, Target};
 use ifs_bytes::{Order, Width};
 
 /// The machine, byte order and width that a target triple gives by its part before the first dash, as
-/// `x86_64-unknown-linux-gnu`; None exactly where there is no such part or it isn't known.
+/// `x86_64-unknown-linux-gnu`; None exactly where there is no such part, it isn't known, or the triple is of x32.
 #[tactic(auto, unfolding(crate::specs::Triple::parts_of_triple))]
 pub fn triple_parts(triple: &[u8]) -> Option<MachineFact>
     ensures { result ≡ parts_of_triple triple.now }
 {
+    if is_x32(triple) {
+        return None;
+    }
     match dash_at(triple) {
         Some(end) => machine_named(&triple[..end]),
         None => None,
@@ -32,6 +35,13 @@ pub fn parts(target: &Target) -> MachineFact
         Some(triple) => triple_parts(triple.as_bytes()).unwrap_or(own),
         None => own,
     }
+}
+
+// Whether the triple is of x32, the machine of x86-64 with words of 32 bits, which isn't known.
+fn is_x32(triple: &[u8]) -> bool
+    ensures { result ≡ is_x32 triple.now }
+{
+    triple.ends_with(b"gnux32")
 }
 
 // The place of the first dash.

@@ -92,6 +92,8 @@ fn triples(rt: HostRuntime) -> Result<(), Fail> {
     assert!(rt; triple_parts(b"thumbv7-linux").is_some());
     assert!(rt; triple_parts(b"x86_64").is_none());
     assert!(rt; triple_parts(b"x86-linux").is_none());
+    assert!(rt; triple_parts(b"x86_64-linux-gnu").is_some());
+    assert!(rt; triple_parts(b"x86_64-linux-gnux32").is_none());
     assert_eq!(rt; parts(&target()).machine, Some(62));
     Ok(())
 }

@@ -10,12 +10,12 @@ use Rattle.ifs_interface.specs.Interface.{InterfaceRecord}
 use Rattle.ifs_interface.specs.Parts.{parts_of}
 use Rattle.ifs_interface.specs.declared.symbol.Symbol.{Symbol}
 use Rattle.ifs_interface.specs.declared.target.MachineFact.{MachineFact}
-use Rattle.elf_dyn.specs.Hash.{carried}
+use Rattle.ifs_bytes.specs.Carried.{carried}
+use Rattle.elf_dyn.specs.declared.constants.TheConstants.{MOST_ROWS, MOST_NAME_BYTES}
 use Rattle.ifs_stub.specs.declared.cause.StubCause.{StubCause}
 use Rattle.ifs_stub.specs.declared.cause.StubCause.TheVariants.{TargetIncomplete, SizeTooWide, TooManySymbols, NamesTooLarge}
 use Rattle.ifs_stub.specs.declared.cause.TargetField.TheVariants.{Arch, BitWidth, Endianness}
 use Rattle.ifs_stub.specs.declared.layout.Form.{Form}
-use Rattle.ifs_stub.specs.declared.limits.TheConstants.{MOST_NAMES, MOST_NAME_BYTES}
 use Rattle.ifs_stub.specs.StubFile.{stub_file, symbol_name_bytes, needed_name_bytes, soname_bytes}
 
 -- the machine, order and width, all of them known
@@ -47,7 +47,7 @@ name_bytes i = carried (symbol_name_bytes i.symbols + (needed_name_bytes i.neede
 
 unfoldable pub limits_checked : InterfaceRecord → Result (Unit {0}) StubCause
 limits_checked i = do
-  _ ← check (nat_le (name_count i) MOST_NAMES) (TooManySymbols (name_count i))
+  _ ← check (nat_le (name_count i) MOST_ROWS) (TooManySymbols (name_count i))
   check (nat_le (name_bytes i) MOST_NAME_BYTES) (NamesTooLarge (name_bytes i))
 
 -- no size is too wide for its row

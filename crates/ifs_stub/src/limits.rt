@@ -4,20 +4,16 @@ ghost use Rattle.std.specs.Prelude.{◌≡◌, ◌*◌, ◌≤◌, IfNone, OnOk}
 ghost use Rattle.std.specs.List.{find};
 ghost use Rattle.std.specs.Option.{option_copied};
 ghost use Rattle.ifs_bytes.specs.Outcome.{UnlessMemory};
-ghost use Rattle.elf_dyn.specs.Hash.{carried};
+ghost use Rattle.ifs_bytes.specs.Carried.{carried};
 ghost use Rattle.ifs_stub.specs.StubFile.{symbol_name_bytes, needed_name_bytes, soname_bytes};
 ghost use Rattle.ifs_stub.specs.Stub.{form_of, is_too_wide, sizes_checked, name_count, name_bytes, limits_checked, HasNoWideSize, IsWithin};
 
 use crate::cause::{StubCause, TargetField};
 use crate::layout::Form;
+use elf_dyn::{MOST_NAME_BYTES, MOST_ROWS};
 use ifs_bytes::{Text, Width};
 use ifs_interface::{Interface, MachineFact, Symbol};
 use std::alloc::Global;
-
-/// The most symbols and needed libraries that a stub may have together.
-pub const MOST_NAMES: u64 = 1_000_000;
-/// The most bytes that a stub's names may have together.
-pub const MOST_NAME_BYTES: u64 = 33_554_432;
 
 /// The machine, order and width, where all are known; else the first that isn't.
 #[tactic(auto, unfolding(crate::specs::Stub::form_of))]
@@ -132,7 +128,7 @@ pub fn check_limits(interface: &Interface) -> Result<(), StubCause>
     ensures within { OnOk result (IsWithin interface.now) }
 {
     let count = name_count(interface);
-    if count > MOST_NAMES {
+    if count > MOST_ROWS {
         return Err(StubCause::TooManySymbols(count));
     }
     let size = name_bytes(interface);

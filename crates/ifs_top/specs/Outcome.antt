@@ -25,8 +25,8 @@ output_at None bytes = []
 output_at (Some path) bytes = record { path = path; bytes = bytes } ∷ []
 
 -- the text of the interface, then the stub library, each where it is asked for
-abbrev pub written_text : Asked → InterfaceRecord → List ℕ → Reply
-written_text asked interface stub = record {
+abbrev pub reply_of : Asked → InterfaceRecord → List ℕ → Reply
+reply_of asked interface stub = record {
   outputs = output_at asked.text (printed_interface interface) ++ output_at asked.stub stub;
   line = [];
   status = 0;
@@ -34,7 +34,7 @@ written_text asked interface stub = record {
 
 -- what is written of an interface, once the stub library is made
 abbrev pub with_stub : Asked → InterfaceRecord → Result (List ℕ) StubCause → Reply
-with_stub asked interface (Ok stub) = written_text asked interface stub
+with_stub asked interface (Ok stub) = reply_of asked interface stub
 with_stub asked interface (Err cause) = fault (codes "stub") (printed_stub_cause cause) 1
 
 -- a stub library is made where it is asked for

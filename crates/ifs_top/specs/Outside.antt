@@ -1,6 +1,6 @@
 -- What is known of the outside before or after a run: what the files and the sinks hold, where they tell it,
 -- and their counts; and how outputs change it.
-use Rattle.std.specs.Prelude.{◌≡◌, ℕ, ◌⊎◌, List, [], ◌∷◌, Option, Some, option_map, if◌then◌else◌}
+use Rattle.std.specs.Prelude.{◌≡◌, ℕ, Bool, true, false, ◌⊎◌, List, [], ◌∷◌, Option, Some, option_map, if◌then◌else◌}
 use Rattle.std.specs.Io.KnownBytes.{append_known}
 use Rattle.ifs_outside.specs.Count.{Rose}
 use Rattle.ifs_outside.specs.Files.{FileMap, put, with_write}
@@ -45,11 +45,14 @@ written (output ∷ outputs) p = written outputs (after output p)
 abbrev pub Keeps : Places → Places → Type 0
 Keeps old new = (new.out ≡ old.out) × (new.files ≡ old.files)
 
--- a part of the output was printed, or its path holds any bytes or none; all else stays
+-- where the output is printed a part of it was, else its path holds any bytes or none; all else stays
+abbrev pub SpoilsBy : Bool → Output → Places → Places → Type 0
+SpoilsBy true output old new = PutsPrefix output.bytes old.out new.out × (new.files ≡ old.files)
+SpoilsBy false output old new =
+    (held : Option (List ℕ)) × (new.out ≡ old.out) × (new.files ≡ option_map (put output.path held) old.files)
+
 abbrev pub Spoils : Output → Places → Places → Type 0
-Spoils output old new =
-    (PutsPrefix output.bytes old.out new.out × (new.files ≡ old.files))
-    ⊎ ((held : Option (List ℕ)) × (new.out ≡ old.out) × (new.files ≡ option_map (put output.path held) old.files))
+Spoils output old new = SpoilsBy (is_printed output) output old new
 
 -- some of the first outputs were written whole, in order, and at most one more was spoilt
 abbrev pub StopsWithin : List Output → Places → Places → Type 0

@@ -4,7 +4,8 @@ ghost use Rattle.std.specs.Prelude.{◌≡◌, ◌<◌, ◌++◌, IfOk, OnOk, Re
 ghost use Rattle.elf_dyn.specs.Library.{library_of};
 ghost use Rattle.ifs_interface.specs.Extracted.{interface_of};
 ghost use Rattle.ifs_bytes.specs.Outcome.{UnlessMemory};
-ghost use Rattle.ifs_top.specs.Outcome.{by_library, output_at, stub_for, with_stub, written_text};
+ghost use Rattle.ifs_text.specs.Printed.{printed_interface};
+ghost use Rattle.ifs_top.specs.Outcome.{by_library, output_at, stub_for, with_stub, reply_of};
 ghost use Rattle.ifs_top.specs.Request.{asked};
 ghost use Rattle.std.specs.Option.{option_copied};
 ghost use Rattle.ifs_top.specs.Steps.{DecidesFor};
@@ -63,17 +64,32 @@ fn push_output(
     Ok(())
 }
 
+// Appends the text of an interface, where there is a path for it.
+fn push_text(
+    outputs: &mut Vec<Output>,
+    alloc: Global,
+    path: Option<&[u8]>,
+    interface: &Interface,
+) -> Result<(), Memory>
+    ensures { OnOk result (outputs.new.items ≡ outputs.old.items ++ output_at (option_copied path.entry) (printed_interface interface.now)) }
+{
+    if path.is_none() {
+        return Ok(());
+    }
+    push_output(outputs, alloc, path, print(alloc, interface)?)
+}
+
 // The reply with the text and the stub library of an interface, each where it is asked for.
-fn written_text(
+fn reply_of(
     alloc: Global,
     request: Request<'_>,
     interface: &Interface,
     stub: Text,
 ) -> Result<Reply, Memory>
-    ensures { IfOk result (λ reply. reply ≡ written_text (asked request.entry) interface.now stub) }
+    ensures { IfOk result (λ reply. reply ≡ reply_of (asked request.entry) interface.now stub) }
 {
     let mut outputs = Vec::new(alloc);
-    push_output(&mut outputs, alloc, request.text, print(alloc, interface)?)?;
+    push_text(&mut outputs, alloc, request.text, interface)?;
     push_output(&mut outputs, alloc, request.stub, stub)?;
     Ok(Reply {
         outputs: List::from_vec(outputs),
@@ -101,7 +117,7 @@ fn with_stub(alloc: Global, request: Request<'_>, interface: &Interface) -> Resu
     ensures status { IfOk result (λ reply. reply.status < 3) }
 {
     match stub_for(alloc, request.stub, interface) {
-        Ok(stub) => written_text(alloc, request, interface, stub),
+        Ok(stub) => reply_of(alloc, request, interface, stub),
         Err(StubCause::Memory) => Err(Memory),
         Err(cause) => fault(alloc, b"stub", cause.printed(alloc)?.as_bytes(), 1),
     }

@@ -1,4 +1,4 @@
--- How a scalar is printed: plain where every YAML reader takes it for a text, else in quotes (YAML 1.2,
+-- How a scalar is printed: plain where readers of YAML 1.2 take it for a text, else in quotes (YAML 1.2,
 -- "Flow Scalar Styles").
 use Rattle.std.specs.Prelude.{ℕ, ◌+◌, ◌-◌, ◌/◌, ◌%◌, Bool, false, ◌||◌, ◌&&◌, not, ◌==◌, nat_lt, List, [], ◌∷◌, ◌++◌, if◌then◌else◌, codes}
 use Rattle.std.specs.Char.{is_ascii_alphabetic, is_ascii_alphanumeric, is_ascii_control}

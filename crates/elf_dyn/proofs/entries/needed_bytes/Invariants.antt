@@ -2,7 +2,7 @@ use Rattle.std.proofs.Common.{◌≡◌, ℕ, ◌+◌, ◌<◌, ◌^◌}
 use Rattle.std.specs.Prelude.{sum_by}
 use Rattle.ifs_bytes.specs.Places.{places}
 use Rattle.elf_dyn.specs.Entries.{needed_at}
-use Rattle.elf_dyn.specs.Hash.{carried}
+use Rattle.ifs_bytes.specs.Carried.{carried}
 use Rattle.elf_dyn.specs.Strings.{bytes_of}
 use Rattle.elf_dyn.proofs.entries.needed_bytes.Given as goal
 

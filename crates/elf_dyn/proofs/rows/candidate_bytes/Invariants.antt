@@ -1,7 +1,7 @@
 use Rattle.std.proofs.Common.{◌≡◌, ◌+◌, ◌<◌, ◌^◌}
 use Rattle.std.specs.Prelude.{sum_by}
 use Rattle.ifs_bytes.specs.Places.{places}
-use Rattle.elf_dyn.specs.Hash.{carried}
+use Rattle.ifs_bytes.specs.Carried.{carried}
 use Rattle.elf_dyn.specs.Rows.{candidate_size}
 use Rattle.elf_dyn.proofs.rows.candidate_bytes.Given as goal
 

@@ -1,5 +1,5 @@
 use Rattle.std.proofs.Common.{◌≡◌, ◌+◌, ◌<◌, ◌^◌, drop}
-use Rattle.elf_dyn.specs.Hash.{carried}
+use Rattle.ifs_bytes.specs.Carried.{carried}
 use Rattle.ifs_stub.specs.StubFile.{needed_name_bytes}
 use Rattle.ifs_stub.proofs.limits.needed_name_bytes.Given as goal
 
