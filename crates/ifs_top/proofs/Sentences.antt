@@ -1,6 +1,6 @@
 -- Each sentence about a run, from what its steps promise.
-use Rattle.std.proofs.Common.{◌≡◌, ◌≢◌, ℕ, ◌+◌, ◌<◌, ◌≤◌, ◌⊎◌, List, [], ◌∷◌, length, Option, Some, None, Result, Ok, Err, refl, sym, ap, subst, ◌∙◌, inl, inr, lit<, arith}
-use Rattle.std.specs.Prelude.{max, codes, IfSome}
+use Rattle.std.proofs.Common.{◌≡◌, ◌≢◌, ℕ, ◌<◌, ◌≤◌, ◌⊎◌, List, [], length, Option, Some, None, Ok, Err, refl, sym, ap, subst, ◌∙◌, inl, inr, lit<, arith}
+use Rattle.std.specs.Prelude.{codes, IfSome}
 use Rattle.std.specs.Io.KnownBytes.{append_known}
 use Rattle.ifs_outside.specs.Count.{raised, Rose}
 use Rattle.ifs_outside.specs.Files.{FileMap, reading}
@@ -12,11 +12,11 @@ use Rattle.ifs_top.specs.declared.reply.Reply.{Reply}
 use Rattle.ifs_top.specs.declared.stub.Stop.{Stop}
 use Rattle.ifs_top.specs.declared.stub.Stop.TheVariants as stops
 use Rattle.ifs_top.specs.Command.{Asked}
-use Rattle.ifs_top.specs.Outcome.{outcome, after_reading, refused_words}
-use Rattle.ifs_top.specs.Outside.{Places, Outside, Keeps, StopsWithin, PlaceRose, places, written}
+use Rattle.ifs_top.specs.Outcome.{outcome, refused_words}
+use Rattle.ifs_top.specs.Outside.{Places, Outside, StopsWithin, PlaceRose, places, written}
 use Rattle.ifs_top.specs.Reply.{fault_line, Names}
-use Rattle.ifs_top.specs.Runs.{Runs, Gives, WritesNothing, SaysUnread, SaysUnwritten, ReadRose, WriteRose, NoFault, read_total, write_total, outside}
-use Rattle.ifs_top.specs.Steps.{Says, Delivers, Decides, DecidesFor, DecideCounts, IsMiss, StopSays, memory_line}
+use Rattle.ifs_top.specs.Runs.{Runs, Gives, WritesNothing, SaysUnread, ReadRose, read_total, outside}
+use Rattle.ifs_top.specs.Steps.{Says, Delivers, Decides, DecideCounts, StopSays, memory_line}
 use Rattle.ifs_top.proofs.Ends.{Ends, Given, ends, keeps_stops}
 
 -- the line of a miss, for what the words ask for

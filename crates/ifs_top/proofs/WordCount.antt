@@ -1,8 +1,8 @@
 -- Too few words, or too many, ask for nothing.
-use Rattle.std.proofs.Common.{◌≡◌, ℕ, suc, ◌<◌, List, [], ◌∷◌, length, Option, None, refl, ap, ◌∙◌, sym, arith}
+use Rattle.std.proofs.Common.{◌≡◌, ℕ, ◌<◌, List, [], ◌∷◌, length, None, refl, sym, arith}
 use Rattle.std.specs.Prelude.{map}
 use Rattle.std.proofs.lemmas.List.{length-map}
-use Rattle.ifs_top.specs.Command.{Asked, asked_by}
+use Rattle.ifs_top.specs.Command.{asked_by}
 
 few_lists : (words : List (List ℕ)) → length words < 3 → asked_by words ≡ None
 unfolding asked_by

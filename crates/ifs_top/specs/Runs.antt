@@ -9,7 +9,7 @@ use Rattle.ifs_top.specs.declared.limits.TheConstants.{MOST_FILE_BYTES}
 use Rattle.ifs_top.specs.declared.reply.Reply.{Reply}
 use Rattle.ifs_top.specs.Command.{Asked}
 use Rattle.ifs_top.specs.Outcome.{outcome}
-use Rattle.ifs_top.specs.Outside.{Places, Outside, Keeps, PlaceRose, StopsWithin, places, written}
+use Rattle.ifs_top.specs.Outside.{Outside, Keeps, PlaceRose, StopsWithin, places, written}
 use Rattle.ifs_top.specs.Reply.{fault_line, Names}
 
 abbrev pub outside : Option (List ℕ) → ℕ → Option (List ℕ) → ℕ → Option FileMap → FileCounts → Option (List ℕ) → ℕ → Outside

@@ -1,5 +1,5 @@
 -- What the steps of a run promise.
-use Rattle.std.specs.Prelude.{◌≡◌, ℕ, ◌<◌, ◌⊎◌, ⊤, max, codes, List, [], ◌∷◌, ◌++◌, length, Option, Some, None, Result, Ok, Err, IfSome, IfOk, IfErr}
+use Rattle.std.specs.Prelude.{◌≡◌, ℕ, ◌<◌, ◌⊎◌, ⊤, max, codes, List, [], ◌∷◌, ◌++◌, Option, Some, None, Result, Ok, Err, IfSome, IfOk, IfErr}
 use Rattle.std.specs.Io.KnownBytes.{append_known}
 use Rattle.ifs_outside.specs.Count.{Rose}
 use Rattle.ifs_outside.specs.Files.{FileMap, reading}
@@ -7,7 +7,6 @@ use Rattle.ifs_outside.specs.declared.cause.ReadCause.TheVariants.{Missing, TooL
 use Rattle.ifs_top.specs.declared.limits.TheConstants.{MOST_FILE_BYTES}
 use Rattle.ifs_outside.specs.declared.counts.FileCounts.{FileCounts}
 use Rattle.ifs_outside.specs.declared.cause.WriteCause.{WriteCause}
-use Rattle.ifs_outside.specs.declared.cause.WriteCause.TheVariants as causes
 use Rattle.ifs_top.specs.declared.reply.Output.{Output}
 use Rattle.ifs_top.specs.declared.reply.Reply.{Reply}
 use Rattle.ifs_top.specs.declared.stub.Stop.{Stop}

@@ -1,4 +1,3 @@
-use Rattle.std.proofs.Common.{◌∙◌}
 use Rattle.elf_dyn.specs.Library.{library_at}
 use Rattle.elf_dyn.proofs.Proper.{proper_library}
 use Rattle.elf_dyn.proofs.library.read.Goals as goal
