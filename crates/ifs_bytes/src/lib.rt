@@ -8,6 +8,7 @@ mod form;
 mod list;
 mod memory;
 mod name;
+mod numeral;
 mod text;
 
 pub use field::{
@@ -18,6 +19,7 @@ pub use form::{Order, Width};
 pub use list::List;
 pub use memory::Memory;
 pub use name::name_at;
+pub use numeral::number_of;
 pub use text::Text;
 
 #[cfg(test)]

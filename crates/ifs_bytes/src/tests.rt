@@ -26,6 +26,16 @@ fn names_end_in_a_nul(rt: HostRuntime) {
 }
 
 #[test]
+fn digits_write_a_number(rt: HostRuntime) {
+    assert_eq!(rt; number_of(b"007", 10), Some(7));
+    assert_eq!(rt; number_of(b"fF", 16), Some(255));
+    assert_eq!(rt; number_of(b"18446744073709551615", 10), Some(u64::MAX));
+    for digits in [b"18446744073709551616".as_slice(), b"", b"+1", b"1 "] {
+        assert_eq!(rt; number_of(digits, 10), None);
+    }
+}
+
+#[test]
 fn puts_and_texts(rt: HostRuntime) -> Result<(), Fail> {
     let mut out = Vec::new(rt.alloc());
     put_u16(&mut out, 0x0102, Order::Little)?;

@@ -1,2 +1,3 @@
+pub mod Arches
 pub mod Names
 pub mod Repeats

@@ -13,7 +13,7 @@ mod row;
 mod symbol;
 mod target;
 
-pub use arch::put_arch;
+pub use arch::{arch_of, put_arch};
 pub use interface::{Interface, copied_texts};
 pub use machine::{parts, triple_parts};
 pub use row::DynRow;

@@ -85,6 +85,31 @@ fn machines(rt: HostRuntime) -> Result<(), Fail> {
 }
 
 #[test]
+fn names_of_machines(rt: HostRuntime) {
+    for (name, machine) in [
+        (b"X86_64".as_slice(), 62),
+        (b"aarch64", 183),
+        (b"x86", 3),
+        (b"SparcV9", 43),
+        (b"em_62", 62),
+        (b"EM_0", 0),
+        (b"EM_65535", 65535),
+    ] {
+        assert_eq!(rt; arch_of(name), Some(machine));
+    }
+    for name in [
+        b"".as_slice(),
+        b"EM_",
+        b"EM_007",
+        b"EM_65536",
+        b"EM_+1",
+        b"x86_64 ",
+    ] {
+        assert_eq!(rt; arch_of(name), None);
+    }
+}
+
+#[test]
 fn triples(rt: HostRuntime) -> Result<(), Fail> {
     let fact = triple_parts(b"powerpc64-linux-gnu").ok_or("known")?;
     assert_eq!(rt; fact.machine, Some(21));
