@@ -1,10 +1,17 @@
-//! The profile of YAML that text stubs are written in. A scalar is printed plain where readers of YAML 1.2
-//! take it for a text, and else in quotes, so that no name is read back as a truth value, a number or a mark.
+//! The profile of YAML that text stubs are written in. `read` gives the documents of a text. A scalar is printed
+//! plain where readers of YAML 1.2 take it for a text, and else in quotes, so that no name is read back as a truth
+//! value, a number or a mark.
 #![tactic(auto)]
 
+mod laws;
 mod printed;
+mod reading;
 
+pub use laws::texts_have_one_reading;
 pub use printed::{append_scalar, scalar_text};
+pub use reading::read;
+pub use yaml_nodes::{Document, Entry, Node, YamlCause};
+pub use yaml_tokens::YamlKind;
 
 #[cfg(test)]
 mod tests;
