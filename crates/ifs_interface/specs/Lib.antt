@@ -4,3 +4,4 @@ pub mod Library
 pub mod Interface
 pub mod Extracted
 pub mod Parts
+pub mod Fields

@@ -101,7 +101,8 @@ impl Interface {
 
     /// The symbols, in byte order of their names.
     pub fn symbols(&self) -> &[Symbol]
-        ensures { result.now ≡ self.now.symbols }
+        ensures value { result.now ≡ self.now.symbols }
+        ensures proper { IsInterface self.now }
     {
         self.symbols.as_slice()
     }
@@ -156,7 +157,8 @@ pub fn copied_texts(alloc: Global, texts: &[Text]) -> Result<Vec<Text>, Memory>
     Ok(copies)
 }
 
-fn copied_symbols(alloc: Global, symbols: &[Symbol]) -> Result<Vec<Symbol>, Memory>
+/// Equal symbols, in the same order.
+pub fn copied_symbols(alloc: Global, symbols: &[Symbol]) -> Result<Vec<Symbol>, Memory>
     ensures { IfOk result (λ copies. copies.items ≡ symbols.now) }
 {
     let mut copies = Vec::with_capacity(alloc, symbols.len())?;

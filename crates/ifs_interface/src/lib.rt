@@ -14,11 +14,11 @@ mod symbol;
 mod target;
 
 pub use arch::{arch_of, put_arch};
-pub use interface::{Interface, copied_texts};
+pub use interface::{Interface, copied_symbols, copied_texts};
 pub use machine::{parts, triple_parts};
 pub use row::DynRow;
 pub use symbol::{Kind, Symbol};
-pub use target::{MachineFact, Target};
+pub use target::{MachineFact, Target, TargetField};
 
 #[cfg(test)]
 mod tests;

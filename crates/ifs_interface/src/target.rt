@@ -1,6 +1,7 @@
 //! The machine that a library is for.
 
 ghost use Rattle.std.specs.Prelude.{◌≡◌, IfOk};
+ghost use Rattle.ifs_interface.specs.Fields.{field_name};
 
 use ifs_bytes::{Memory, Order, Text, Width};
 use std::alloc::Global;
@@ -44,5 +45,32 @@ impl Target {
             order: self.order,
             width: self.width,
         })
+    }
+}
+
+/// A field of a target.
+#[derive(Clone, Copy, Debug, PartialEq, Eq)]
+pub enum TargetField {
+    /// The machine.
+    Arch,
+    /// The size of addresses.
+    BitWidth,
+    /// The byte order.
+    Endianness,
+    /// The target triple.
+    Triple,
+}
+
+impl TargetField {
+    /// The field's name, as a cause gives it.
+    pub fn name(self) -> &'static [u8]
+        ensures { result.now ≡ field_name self }
+    {
+        match self {
+            TargetField::Arch => b"Arch",
+            TargetField::BitWidth => b"BitWidth",
+            TargetField::Endianness => b"Endianness",
+            TargetField::Triple => b"Triple",
+        }
     }
 }

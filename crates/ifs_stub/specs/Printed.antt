@@ -2,14 +2,7 @@
 use Rattle.std.specs.Prelude.{ℕ, List, ◌++◌, codes, decimal}
 use Rattle.ifs_stub.specs.declared.cause.StubCause.{StubCause}
 use Rattle.ifs_stub.specs.declared.cause.StubCause.TheVariants as causes
-use Rattle.ifs_stub.specs.declared.cause.TargetField.{TargetField}
-use Rattle.ifs_stub.specs.declared.cause.TargetField.TheVariants.{Arch, BitWidth, Endianness, Triple}
-
-abbrev pub field_name : TargetField → List ℕ
-field_name Arch = codes "Arch"
-field_name BitWidth = codes "BitWidth"
-field_name Endianness = codes "Endianness"
-field_name Triple = codes "Triple"
+use Rattle.ifs_interface.specs.Fields.{field_name}
 
 abbrev pub printed_stub_cause : StubCause → List ℕ
 printed_stub_cause (causes.TargetIncomplete field) = codes "TargetIncomplete(" ++ field_name field ++ codes ")"

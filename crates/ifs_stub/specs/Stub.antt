@@ -14,7 +14,7 @@ use Rattle.ifs_bytes.specs.Carried.{carried}
 use Rattle.elf_dyn.specs.declared.constants.TheConstants.{MOST_ROWS, MOST_NAME_BYTES}
 use Rattle.ifs_stub.specs.declared.cause.StubCause.{StubCause}
 use Rattle.ifs_stub.specs.declared.cause.StubCause.TheVariants.{TargetIncomplete, SizeTooWide, TooManySymbols, NamesTooLarge}
-use Rattle.ifs_stub.specs.declared.cause.TargetField.TheVariants.{Arch, BitWidth, Endianness}
+use Rattle.ifs_interface.specs.declared.target.TargetField.TheVariants.{Arch, BitWidth, Endianness}
 use Rattle.ifs_stub.specs.declared.layout.Form.{Form}
 use Rattle.ifs_stub.specs.StubFile.{stub_file, symbol_name_bytes, needed_name_bytes, soname_bytes}
 

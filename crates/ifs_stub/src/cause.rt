@@ -1,23 +1,11 @@
 //! Why an interface has no stub.
 
 ghost use Rattle.std.specs.Prelude.{◌≡◌, ◌++◌, codes, decimal, IfOk, OnOk};
-ghost use Rattle.ifs_stub.specs.Printed.{field_name, printed_stub_cause};
+ghost use Rattle.ifs_stub.specs.Printed.{printed_stub_cause};
 
 use ifs_bytes::{Memory, Text};
+use ifs_interface::TargetField;
 use std::alloc::Global;
-
-/// A field of a target.
-#[derive(Clone, Copy, Debug, PartialEq, Eq)]
-pub enum TargetField {
-    /// The machine.
-    Arch,
-    /// The size of addresses.
-    BitWidth,
-    /// The byte order.
-    Endianness,
-    /// The target triple.
-    Triple,
-}
 
 /// Why an interface has no stub.
 #[derive(Debug, PartialEq, Eq, Drop)]
@@ -42,20 +30,6 @@ impl From<Memory> for StubCause {
 
     fn from(_error: Memory) -> StubCause {
         StubCause::Memory
-    }
-}
-
-impl TargetField {
-    // The field's name.
-    fn name(self) -> &'static [u8]
-        ensures { result.now ≡ field_name self }
-    {
-        match self {
-            TargetField::Arch => b"Arch",
-            TargetField::BitWidth => b"BitWidth",
-            TargetField::Endianness => b"Endianness",
-            TargetField::Triple => b"Triple",
-        }
     }
 }
 

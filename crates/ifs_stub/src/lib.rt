@@ -25,8 +25,9 @@ mod strings;
 mod stub;
 mod symbols;
 
-pub use cause::{StubCause, TargetField};
+pub use cause::StubCause;
 pub use collapse::symbols_of;
+pub use ifs_interface::TargetField;
 pub use interface::extract;
 pub use laws::stubs_have_their_size;
 pub use stub::emit;

@@ -8,11 +8,11 @@ ghost use Rattle.ifs_bytes.specs.Carried.{carried};
 ghost use Rattle.ifs_stub.specs.StubFile.{symbol_name_bytes, needed_name_bytes, soname_bytes};
 ghost use Rattle.ifs_stub.specs.Stub.{form_of, is_too_wide, sizes_checked, name_count, name_bytes, limits_checked, HasNoWideSize, IsWithin};
 
-use crate::cause::{StubCause, TargetField};
+use crate::cause::StubCause;
 use crate::layout::Form;
 use elf_dyn::{MOST_NAME_BYTES, MOST_ROWS};
 use ifs_bytes::{Text, Width};
-use ifs_interface::{Interface, MachineFact, Symbol};
+use ifs_interface::{Interface, MachineFact, Symbol, TargetField};
 use std::alloc::Global;
 
 /// The machine, order and width, where all are known; else the first that isn't.

@@ -1,0 +1,87 @@
+//! How a set in brackets is read.
+
+ghost use Rattle.std.specs.Prelude.{◌≡◌, ◌≤◌, IfOk, IfSome, drop, length};
+ghost use Rattle.ifs_edit.specs.Pattern.{item_at, items_from, set_of};
+
+use crate::element::Span;
+use ifs_bytes::{List, Memory};
+use std::alloc::Global;
+
+// The bytes of a set, and how many bytes of the pattern it has with its `]`.
+#[derive(Drop)]
+pub(crate) struct Set {
+    pub(crate) spans: List<Span>,
+    pub(crate) size: usize,
+}
+
+// A byte or a range of a set, and how many bytes it has behind its first.
+#[derive(Clone, Copy)]
+pub(crate) struct Item {
+    pub(crate) span: Span,
+    pub(crate) more: usize,
+}
+
+// What stands behind the first `count` bytes, or nothing where there are no more.
+pub(crate) fn behind(bytes: &[u8], count: usize) -> &[u8]
+    ensures { result.now ≡ drop count bytes.now }
+{
+    if count <= bytes.len() {
+        let (_, rest) = bytes.split_at(count);
+        rest
+    } else {
+        &[]
+    }
+}
+
+// The item that begins with a byte, before others; None where it is a range that falls.
+fn item_at(byte: u8, rest: &[u8]) -> Option<Item>
+    ensures { result ≡ item_at byte rest.now }
+{
+    let (last, more) = match rest {
+        [b'-', last, ..] if *last != b']' => (*last, 2),
+        _ => (byte, 0),
+    };
+    if byte > last {
+        return None;
+    }
+    Some(Item {
+        span: Span { first: byte, last },
+        more,
+    })
+}
+
+// The items up to `]`; None where none stands there, or a range falls.
+fn items(alloc: Global, bytes: &[u8]) -> Result<Option<Set>, Memory>
+    ensures value { IfOk result (λ set. set ≡ items_from 0 bytes.now) }
+    ensures within { IfOk result (λ set. IfSome set (λ s. s.size ≤ length bytes.now)) }
+{
+    let mut spans = Vec::new(alloc);
+    let mut rest = bytes;
+    while let [byte, after @ ..] = rest {
+        if *byte == b']' {
+            return Ok(Some(Set {
+                spans: List::from_vec(spans),
+                size: bytes.len() - after.len(),
+            }));
+        }
+        match item_at(*byte, after) {
+            Some(item) => {
+                spans.push(item.span)?;
+                rest = behind(after, item.more);
+            }
+            None => return Ok(None),
+        }
+    }
+    Ok(None)
+}
+
+// The set that stands behind its bracket; None where it is broken.
+pub(crate) fn set_of(alloc: Global, bytes: &[u8]) -> Result<Option<Set>, Memory>
+    ensures value { IfOk result (λ set. set ≡ set_of bytes.now) }
+    ensures within { IfOk result (λ set. IfSome set (λ s. s.size ≤ length bytes.now)) }
+{
+    match bytes {
+        [b']', ..] => Ok(None),
+        _ => items(alloc, bytes),
+    }
+}
