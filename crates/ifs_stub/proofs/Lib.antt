@@ -9,3 +9,4 @@ pub mod RankedOrder
 pub mod Fits
 pub mod SymbolRows
 pub mod FileSize
+pub mod ReadBack
