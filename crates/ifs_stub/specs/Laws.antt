@@ -9,6 +9,7 @@ use Rattle.elf_file.specs.declared.cause.ElfCause.{ElfCause}
 use Rattle.elf_dyn.specs.Library.{library_of}
 use Rattle.ifs_interface.specs.Interface.{InterfaceRecord, IsInterface}
 use Rattle.ifs_interface.specs.Extracted.{interface_of}
+use Rattle.ifs_interface.specs.Library.{LibraryRecord}
 use Rattle.ifs_interface.specs.Parts.{parts_of}
 use Rattle.ifs_interface.specs.declared.symbol.Symbol.{Symbol}
 use Rattle.ifs_stub.specs.declared.layout.Form.{Form}
@@ -62,3 +63,27 @@ interface_in file = library_of file >>= λ library. Ok (interface_of library)
 abbrev pub StubsAreReadBack : Type 0
 StubsAreReadBack =
     (i : InterfaceRecord) (stub : List ℕ) → IsInterface i → HasNumbers i → stub_of i ≡ Ok stub → interface_in stub ≡ Ok (forget i)
+
+-- ---- the stub of a library's interface
+
+-- each number is a byte
+abbrev pub are_bytes : List ℕ → Bool
+are_bytes file = list_all (λ byte. nat_lt byte 256) file
+
+abbrev pub form_of_library : LibraryRecord → Form
+form_of_library library = record { machine = library.machine; order = library.order; width = library.width }
+
+-- an interface that has a stub isn't refused
+abbrev pub StubsAreMade : Type 0
+StubsAreMade =
+    (i : InterfaceRecord) (form : Form) → HasStub i form → form_of (parts_of i.target) ≡ Ok form → stub_of i ≡ Ok (stub_file form.order form.width form.machine i)
+
+-- the interface of a library that was read has a stub of the library's form
+abbrev pub ExtractedHaveStubs : Type 0
+ExtractedHaveStubs =
+    (file : List ℕ) (library : LibraryRecord) → are_bytes file ≡ true → library_of file ≡ Ok library → HasStub (interface_of library) (form_of_library library)
+
+-- so it isn't refused
+abbrev pub ExtractedAreMade : Type 0
+ExtractedAreMade =
+    (file : List ℕ) (library : LibraryRecord) → are_bytes file ≡ true → library_of file ≡ Ok library → stub_of (interface_of library) ≡ Ok (stub_file library.order library.width library.machine (interface_of library))

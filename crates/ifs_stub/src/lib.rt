@@ -28,7 +28,7 @@ mod symbols;
 pub use cause::{StubCause, TargetField};
 pub use collapse::symbols_of;
 pub use interface::extract;
-pub use laws::{stubs_are_read_back, stubs_have_their_size};
+pub use laws::{extracted_interfaces_have_stubs, stubs_are_read_back, stubs_have_their_size};
 pub use stub::emit;
 
 #[cfg(test)]

@@ -1,8 +1,8 @@
 -- A stub has the interface that it was made from.
-use Rattle.std.proofs.Common.{◌≡◌, ℕ, ◌<◌, ◌≤◌, ◌^◌, Bool, true, false, List, [], ◌∷◌, Option, Some, None, Result, Ok, Err, refl, sym, ap, ◌∙◌, subst, arith}
-use Rattle.std.specs.Prelude.{nat_lt, nat_le, unwrap_or}
+use Rattle.std.proofs.Common.{◌≡◌, ℕ, ◌<◌, ◌≤◌, ◌^◌, true, false, cond, List, [], ◌∷◌, Option, Some, None, Ok, refl, sym, ap, ◌∙◌, subst, arith}
+use Rattle.std.specs.Prelude.{find, nat_lt, nat_le, unwrap_or}
 use Rattle.std.specs.List.{list_all, list_any}
-use Rattle.std.proofs.lemmas.Bool.{and_parts, and_from}
+use Rattle.std.proofs.lemmas.Bool.{and_parts, and_from, le-leb}
 use Rattle.std.proofs.lemmas.Bool.Decides.{nat_tests}
 use Rattle.ifs_bytes.specs.Carried.{carried}
 use Rattle.ifs_bytes.specs.Outcome.{◌>>=◌, check}
@@ -17,28 +17,16 @@ use Rattle.ifs_stub.specs.Forget.{forget}
 use Rattle.ifs_stub.specs.Laws.{HasNumbers, HasStub, size_fits, interface_in}
 use Rattle.ifs_stub.specs.Stub.{IsWithin, form_of, is_too_wide, unless_too_wide, sizes_checked, limits_checked, name_count, name_bytes, stub_of}
 use Rattle.ifs_stub.specs.StubFile.{stub_file}
-use Rattle.ifs_stub.specs.declared.cause.StubCause.{StubCause}
 use Rattle.ifs_stub.specs.declared.cause.StubCause.TheVariants.{TooManySymbols, NamesTooLarge}
 use Rattle.elf_dyn.specs.declared.constants.TheConstants.{MOST_ROWS, MOST_NAME_BYTES}
 use Rattle.ifs_stub.specs.declared.layout.Form.{Form}
+use Rattle.ifs_stub.proofs.Steps.{steps, check_holds, at_most, ok_is}
 use Rattle.ifs_stub.proofs.SymbolRows.{none_found}
 use Rattle.ifs_stub.proofs.ReadBack.Each.{or_parts}
 use Rattle.ifs_stub.proofs.ReadBack.Interfaces.{target_by, stubs_keep_interfaces}
 use Rattle.ifs_stub.proofs.ReadBack.Libraries.{stubs_are_read}
 
 -- ---- what holds where there is a stub
-
--- a step that went well, and the one behind it
-steps : {A B E : Type 0} (first : Result A E) (next : A → Result B E) (b : B) → (first >>= next) ≡ Ok b → (a : A) × (first ≡ Ok a) × (next a ≡ Ok b)
-steps (Ok a) next b is = (a, refl, is)
-steps (Err e) next b is = absurd (cc)
-
-check_holds : {E : Type 0} (holds : Bool) (cause : E) (t : Unit {0}) → check holds cause ≡ Ok t → holds ≡ true
-check_holds true cause t is = refl
-check_holds false cause t is = absurd (cc)
-
-at_most : (a b : ℕ) → nat_le a b ≡ true → a ≤ b
-at_most a b h = grind (arith, nat_tests)
 
 record IsMade (i : InterfaceRecord) (stub : List ℕ) (form : Form) : Type 0 where
   pub formed : form_of (parts_of i.target) ≡ Ok form
@@ -77,9 +65,6 @@ is_made i stub is =
         stub_is = ok_is _ stub _ refl three.2;
       },
     )
-  where
-    ok_is : (a b : List ℕ) (r : Result (List ℕ) StubCause) → r ≡ Ok a → r ≡ Ok b → a ≡ b
-    ok_is a b r h g = cc
 
 -- ---- the numbers have their places
 
@@ -113,3 +98,27 @@ stubs_are_read_back i stub is numbers stubbed =
     } in
     ap interface_in (sym made.stub_is) ∙ ap (λ r. r >>= λ library. Ok (interface_of library)) (stubs_are_read i form has)
     ∙ ap (λ j. Ok j) (stubs_keep_interfaces i form is made.formed)
+
+-- ---- an interface that has a stub
+
+fitting_is_narrow : (width : Width) (s : Symbol) → size_fits width s ≡ true → is_too_wide width s ≡ false
+fitting_is_narrow W32 s fits = grind (arith, nat_tests)
+fitting_is_narrow W64 s fits = refl
+
+none_too_wide : (width : Width) (symbols : List Symbol) → list_all (size_fits width) symbols ≡ true → find (is_too_wide width) symbols ≡ None
+none_too_wide width [] fits = refl
+none_too_wide width (s ∷ ss) fits =
+    let parts = and_parts (size_fits width s) (list_all (size_fits width) ss) fits in
+    ap (λ t. cond t (Some s) (find (is_too_wide width) ss)) (fitting_is_narrow width s parts.0) ∙ none_too_wide width ss parts.1
+
+limits_hold : (i : InterfaceRecord) → IsWithin i → limits_checked i ≡ Ok tt
+unfolding limits_checked name_count name_bytes
+limits_hold i within =
+    let few : nat_le (name_count i) MOST_ROWS ≡ true = le-leb _ _ within.names in
+    let short : nat_le (name_bytes i) MOST_NAME_BYTES ≡ true = le-leb _ _ (omega (arith, within.bytes)) in
+    rw (few, short) refl
+
+pub stubs_are_made : (i : InterfaceRecord) (form : Form) → HasStub i form → form_of (parts_of i.target) ≡ Ok form → stub_of i ≡ Ok (stub_file form.order form.width form.machine i)
+unfolding stub_of sizes_checked
+stubs_are_made i form has formed =
+    rw (formed, none_too_wide form.width i.symbols has.sizes_fit, limits_hold i has.within) refl
