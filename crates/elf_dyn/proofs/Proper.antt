@@ -20,7 +20,7 @@ use Rattle.elf_dyn.specs.Rows.{row, row_name, is_candidate, named_row, visible_r
 use Rattle.elf_dyn.specs.Strings.{name_of, string_table, unless_empty}
 
 -- the test holds of the value, if there is one
-abbrev passes : {X : Type 0} → (X → Bool) → Option X → Bool
+abbrev pub passes : {X : Type 0} → (X → Bool) → Option X → Bool
 passes test None = true
 passes test (Some x) = test x
 
@@ -61,11 +61,11 @@ kept : {X : Type 0} (test : X → Bool) (o : Option X) (xs : List X) → passes 
 kept test None xs h hs = hs
 kept test (Some x) xs h hs = ap (λ b. b && list_all test xs) h ∙ hs
 
-all_kept : {X : Type 0} (test : X → Bool) (f : ℕ → Option X) → ((i : ℕ) → passes test (f i) ≡ true) → (is : List ℕ) → list_all test (filter_map f is) ≡ true
+pub all_kept : {X : Type 0} (test : X → Bool) (f : ℕ → Option X) → ((i : ℕ) → passes test (f i) ≡ true) → (is : List ℕ) → list_all test (filter_map f is) ≡ true
 all_kept test f h [] = refl
 all_kept test f h (i ∷ is) = kept test (f i) (filter_map f is) (h i) (all_kept test f h is)
 
-if_kept : {X : Type 0} (test : X → Bool) (b : Bool) (o : Option X) → passes test o ≡ true → passes test (cond b o None) ≡ true
+pub if_kept : {X : Type 0} (test : X → Bool) (b : Bool) (o : Option X) → passes test o ≡ true → passes test (cond b o None) ≡ true
 if_kept test true o h = h
 if_kept test false o h = refl
 

@@ -99,10 +99,10 @@ impl Interface {
         self.needed.as_slice()
     }
 
-    /// The symbols, in byte order of their names.
+    /// The symbols, in byte order of their names, each name once.
     pub fn symbols(&self) -> &[Symbol]
         ensures value { result.now ≡ self.now.symbols }
-        ensures proper { IsInterface self.now }
+        ensures interface { IsInterface self.now }
     {
         self.symbols.as_slice()
     }

@@ -20,7 +20,7 @@ use Rattle.ifs_stub.specs.Stub.{IsWithin}
 use Rattle.ifs_stub.specs.StubFile.{symbol_name_bytes, needed_name_bytes, soname_count, soname_bytes, sizes_of, layout_of, plan_of, gap, terminated, section_names, file_header, load_segment, dynamic_segment, header_part, null_row, rows_from, rows_bytes, symbol_part, soname_string, string_part, word_bytes, first_row, next_row, hash_part, entries_bytes, needed_entries, soname_entries, table_entries, table_part, dynamic_part, null_section, symbols_section, strings_section, hash_section, dynamic_section, names_section, section_part, gap_part, file_by}
 
 -- a part behind others
-next : (xs ys : List ℕ) (at size : ℕ) → length xs ≡ at → length ys ≡ size → length (xs ++ ys) ≡ at + size
+pub next : (xs ys : List ℕ) (at size : ℕ) → length xs ≡ at → length ys ≡ size → length (xs ++ ys) ≡ at + size
 next xs ys at size e g = omega (arith, e, g, length-append xs ys)
 
 length-rows_bytes : (order : Order) (width : Width) (rows : List Row) → length (rows_bytes order width rows) ≡ length rows * symbol_size width
@@ -31,7 +31,7 @@ length-rows_bytes order W32 (r ∷ rs) =
 length-rows_bytes order W64 (r ∷ rs) =
     omega (arith, length-append (symbol_bytes r order W64) (rows_bytes order W64 rs), length-symbol_bytes r order W64, length-rows_bytes order W64 rs)
 
-length-rows_from : (at : ℕ) (symbols : List Symbol) → length (rows_from at symbols) ≡ length symbols
+pub length-rows_from : (at : ℕ) (symbols : List Symbol) → length (rows_from at symbols) ≡ length symbols
 length-rows_from at [] = refl
 length-rows_from at (s ∷ ss) = omega (arith, length-rows_from (at + (length s.name + 1)) ss)
 
@@ -43,23 +43,23 @@ length-entries_bytes order W32 (d ∷ ds) =
 length-entries_bytes order W64 (d ∷ ds) =
     omega (arith, length-append (dynamic_bytes d order W64) (entries_bytes order W64 ds), length-dynamic_bytes d order W64, length-entries_bytes order W64 ds)
 
-length-needed_entries : (at : ℕ) (names : List (List ℕ)) → length (needed_entries at names) ≡ length names
+pub length-needed_entries : (at : ℕ) (names : List (List ℕ)) → length (needed_entries at names) ≡ length names
 length-needed_entries at [] = refl
 length-needed_entries at (n ∷ ns) = omega (arith, length-needed_entries (at + (length n + 1)) ns)
 
-length-soname_entries : (at : ℕ) (soname : Option (List ℕ)) → length (soname_entries at soname) ≡ soname_count soname
+pub length-soname_entries : (at : ℕ) (soname : Option (List ℕ)) → length (soname_entries at soname) ≡ soname_count soname
 length-soname_entries at None = refl
 length-soname_entries at (Some name) = refl
 
 length-terminated : (name : List ℕ) → length (terminated name) ≡ length name + 1
 length-terminated name = omega (arith, length-append name (0 ∷ []))
 
-length-symbol_names : (symbols : List Symbol) → length (flat_map (λ symbol. terminated symbol.name) symbols) ≡ length symbols + symbol_name_bytes symbols
+pub length-symbol_names : (symbols : List Symbol) → length (flat_map (λ symbol. terminated symbol.name) symbols) ≡ length symbols + symbol_name_bytes symbols
 length-symbol_names [] = refl
 length-symbol_names (s ∷ ss) =
     omega (arith, length-append (terminated s.name) (flat_map (λ symbol. terminated symbol.name) ss), length-terminated s.name, sum_by-cons (λ (symbol : Symbol). length symbol.name) s ss, length-symbol_names ss)
 
-length-needed_names : (names : List (List ℕ)) → length (flat_map terminated names) ≡ length names + needed_name_bytes names
+pub length-needed_names : (names : List (List ℕ)) → length (flat_map terminated names) ≡ length names + needed_name_bytes names
 length-needed_names [] = refl
 length-needed_names (n ∷ ns) =
     omega (arith, length-append (terminated n) (flat_map terminated ns), length-terminated n, sum_by-cons (λ (name : List ℕ). length name) n ns, length-needed_names ns)
@@ -73,7 +73,7 @@ length-chain f order from zero = refl
 length-chain f order from (suc n) =
     omega (arith, length-append (word_bytes order (f from)) (flat_map (λ row. word_bytes order (f row)) (range_with_len (from + 1) n)), length-number_bytes 4 (f from) order, length-chain f order (from + 1) n)
 
-length-header_part : (plan : Plan) → length (header_part plan) ≡ header_size plan.form.width + 2 * segment_size plan.form.width
+pub length-header_part : (plan : Plan) → length (header_part plan) ≡ header_size plan.form.width + 2 * segment_size plan.form.width
 unfolding header_part
 length-header_part plan =
     let order = plan.form.order in
@@ -85,14 +85,14 @@ length-header_part plan =
     twice : (a b : ℕ) → a + b + b ≡ a + 2 * b
     twice a b = omega arith
 
-length-symbol_part : (symbols : List Symbol) (form : Form) → length (symbol_part symbols form) ≡ (length symbols + 1) * symbol_size form.width
+pub length-symbol_part : (symbols : List Symbol) (form : Form) → length (symbol_part symbols form) ≡ (length symbols + 1) * symbol_size form.width
 unfolding symbol_part
 length-symbol_part symbols form =
     let rows = null_row ∷ rows_from 1 symbols in
     let count : length rows ≡ length symbols + 1 = omega (arith, length-rows_from 1 symbols) in
     length-rows_bytes form.order form.width rows ∙ ap (λ (n : ℕ). n * symbol_size form.width) count
 
-length-string_part : (i : InterfaceRecord) → length (string_part i) ≡ (sizes_of i).strings
+pub length-string_part : (i : InterfaceRecord) → length (string_part i) ≡ (sizes_of i).strings
 unfolding string_part sizes_of
 length-string_part i =
     let symbols = flat_map (λ (symbol : Symbol). terminated symbol.name) i.symbols in
@@ -105,11 +105,11 @@ length-string_part i =
     regroup : (a b c d : ℕ) → 1 + (a + b) + c + d ≡ a + 1 + b + c + d
     regroup a b c d = omega arith
 
-length-gap_part : (width : Width) (at : ℕ) → length (gap_part width at) ≡ gap width at
+pub length-gap_part : (width : Width) (at : ℕ) → length (gap_part width at) ≡ gap width at
 unfolding gap_part
 length-gap_part width at = length-replicate (gap width at) 0
 
-length-hash_part : (count : ℕ) (order : Order) → length (hash_part count order) ≡ 4 * (count + 3)
+pub length-hash_part : (count : ℕ) (order : Order) → length (hash_part count order) ≡ 4 * (count + 3)
 unfolding hash_part
 length-hash_part count order =
     let one = next _ _ _ _ (length-number_bytes 4 1 order) (length-number_bytes 4 count order) in
@@ -123,7 +123,7 @@ length-table_part : (plan : Plan) → length (table_part plan) ≡ 6 * dynamic_s
 unfolding table_part
 length-table_part plan = length-entries_bytes plan.form.order plan.form.width (table_entries plan)
 
-length-dynamic_part : (i : InterfaceRecord) (plan : Plan) → length (dynamic_part i plan) ≡ (length i.needed + soname_count i.soname + 6) * dynamic_size plan.form.width
+pub length-dynamic_part : (i : InterfaceRecord) (plan : Plan) → length (dynamic_part i plan) ≡ (length i.needed + soname_count i.soname + 6) * dynamic_size plan.form.width
 unfolding dynamic_part
 length-dynamic_part i plan =
     let order = plan.form.order in
@@ -139,7 +139,7 @@ length-dynamic_part i plan =
     together W32 a b = omega arith
     together W64 a b = omega arith
 
-length-section_part : (plan : Plan) → length (section_part plan) ≡ 6 * section_size plan.form.width
+pub length-section_part : (plan : Plan) → length (section_part plan) ≡ 6 * section_size plan.form.width
 unfolding section_part
 length-section_part plan =
     let order = plan.form.order in

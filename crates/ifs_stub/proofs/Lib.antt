@@ -9,3 +9,8 @@ pub mod RankedOrder
 pub mod Fits
 pub mod SymbolRows
 pub mod FileSize
+pub mod ReadBack
+pub mod Steps
+pub mod Weights
+pub mod ReadNumbers
+pub mod Extracted

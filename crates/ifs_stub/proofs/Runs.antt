@@ -86,7 +86,7 @@ rows_of_later n m run others h g =
 abbrev pub symbol_by : List ℕ → List DynRow → Symbol
 symbol_by n rows = described n (find is_defined rows) rows
 
-symbols_of_run : (row : DynRow) (run others : List DynRow) → list_all (is_named row.name) (row ∷ run) ≡ true → list_all (is_after row.name) others ≡ true → symbols_by_name ((row ∷ run) ++ others) ≡ symbol_of_run (row ∷ run) ∷ symbols_by_name others
+pub symbols_of_run : (row : DynRow) (run others : List DynRow) → list_all (is_named row.name) (row ∷ run) ≡ true → list_all (is_after row.name) others ≡ true → symbols_by_name ((row ∷ run) ++ others) ≡ symbol_of_run (row ∷ run) ∷ symbols_by_name others
 unfolding visible_names symbol_named
 symbols_of_run row run others h g =
     let n = row.name in

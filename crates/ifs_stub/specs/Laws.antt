@@ -1,10 +1,22 @@
 -- What holds of each stub file.
-use Rattle.std.specs.Prelude.{◌≡◌, ◌+◌, ◌*◌, ◌<◌, length}
+use Rattle.std.specs.Prelude.{◌≡◌, ℕ, ◌+◌, ◌*◌, ◌<◌, ◌^◌, Bool, true, List, length, nat_lt, unwrap_or, Result, Ok}
+use Rattle.std.specs.List.{list_all}
+use Rattle.ifs_bytes.specs.Field.{word_size}
+use Rattle.ifs_bytes.specs.Outcome.{◌>>=◌}
+use Rattle.ifs_bytes.specs.declared.form.Width.{Width}
 use Rattle.elf_file.specs.Tables.{section_size}
-use Rattle.ifs_interface.specs.Interface.{InterfaceRecord}
+use Rattle.elf_file.specs.declared.cause.ElfCause.{ElfCause}
+use Rattle.elf_dyn.specs.Library.{library_of}
+use Rattle.ifs_interface.specs.Interface.{InterfaceRecord, IsInterface}
+use Rattle.ifs_interface.specs.Extracted.{interface_of}
+use Rattle.ifs_interface.specs.Library.{LibraryRecord}
+use Rattle.ifs_interface.specs.Parts.{parts_of}
+use Rattle.ifs_interface.specs.declared.symbol.Symbol.{Symbol}
 use Rattle.ifs_stub.specs.declared.layout.Form.{Form}
-use Rattle.ifs_stub.specs.StubFile.{file_by, plan_of}
-use Rattle.ifs_stub.specs.Stub.{IsWithin}
+use Rattle.ifs_stub.specs.StubFile.{file_by, plan_of, stub_file}
+use Rattle.ifs_stub.specs.Stub.{IsWithin, form_of, stub_of}
+use Rattle.ifs_stub.specs.StubLibrary.{stub_library}
+use Rattle.ifs_stub.specs.Forget.{forget}
 
 -- the file ends behind its six section headers
 abbrev pub StubsEndAtTheirPlace : Type 0
@@ -14,3 +26,64 @@ StubsEndAtTheirPlace =
 -- within the limits the file has less than 72 MiB
 abbrev pub StubsAreSmall : Type 0
 StubsAreSmall = (i : InterfaceRecord) (form : Form) → IsWithin i → length (file_by i (plan_of i form)) < 75497472
+
+-- ---- a stub that is read back
+
+-- the size of the symbol has a place in a row
+abbrev pub size_fits : Width → Symbol → Bool
+size_fits width symbol = nat_lt (unwrap_or symbol.size 0) (256 ^ word_size width)
+
+-- an interface that has a stub of the form: it is within the limits, and its numbers have their places
+pub record HasStub (i : InterfaceRecord) (form : Form) : Type 0 where
+  pub interface : IsInterface i
+  pub machine_fits : form.machine < 2 ^ 16
+  pub sizes_fit : list_all (size_fits form.width) i.symbols ≡ true
+  pub within : IsWithin i
+
+-- the stub is read as the library that it stands for
+abbrev pub StubsAreRead : Type 0
+StubsAreRead =
+    (i : InterfaceRecord) (form : Form) → HasStub i form → library_of (stub_file form.order form.width form.machine i) ≡ Ok (stub_library i form)
+
+-- the interface of that library is the one that the stub was made from, but for what a stub has no place for
+abbrev pub StubsKeepInterfaces : Type 0
+StubsKeepInterfaces =
+    (i : InterfaceRecord) (form : Form) → IsInterface i → form_of (parts_of i.target) ≡ Ok form → interface_of (stub_library i form) ≡ forget i
+
+-- the machine is a number of 16 bits, and each size one of 64
+pub record HasNumbers (i : InterfaceRecord) : Type 0 where
+  pub machine : unwrap_or (parts_of i.target).machine 0 < 2 ^ 16
+  pub sizes : list_all (λ symbol. nat_lt (unwrap_or symbol.size 0) (2 ^ 64)) i.symbols ≡ true
+
+-- the interface of a file, or why it can't be read
+abbrev pub interface_in : List ℕ → Result InterfaceRecord ElfCause
+interface_in file = library_of file >>= λ library. Ok (interface_of library)
+
+-- so the stub of an interface, where there is one, has that interface
+abbrev pub StubsAreReadBack : Type 0
+StubsAreReadBack =
+    (i : InterfaceRecord) (stub : List ℕ) → IsInterface i → HasNumbers i → stub_of i ≡ Ok stub → interface_in stub ≡ Ok (forget i)
+
+-- ---- the stub of a library's interface
+
+-- each number is a byte
+abbrev pub are_bytes : List ℕ → Bool
+are_bytes file = list_all (λ byte. nat_lt byte 256) file
+
+abbrev pub form_of_library : LibraryRecord → Form
+form_of_library library = record { machine = library.machine; order = library.order; width = library.width }
+
+-- an interface that has a stub isn't refused
+abbrev pub StubsAreMade : Type 0
+StubsAreMade =
+    (i : InterfaceRecord) (form : Form) → HasStub i form → form_of (parts_of i.target) ≡ Ok form → stub_of i ≡ Ok (stub_file form.order form.width form.machine i)
+
+-- the interface of a library that was read has a stub of the library's form
+abbrev pub ExtractedHaveStubs : Type 0
+ExtractedHaveStubs =
+    (file : List ℕ) (library : LibraryRecord) → are_bytes file ≡ true → library_of file ≡ Ok library → HasStub (interface_of library) (form_of_library library)
+
+-- so it isn't refused
+abbrev pub ExtractedAreMade : Type 0
+ExtractedAreMade =
+    (file : List ℕ) (library : LibraryRecord) → are_bytes file ≡ true → library_of file ≡ Ok library → stub_of (interface_of library) ≡ Ok (stub_file library.order library.width library.machine (interface_of library))

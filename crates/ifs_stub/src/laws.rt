@@ -1,9 +1,27 @@
 //! Laws on stub files.
 
-ghost use Rattle.ifs_stub.specs.Laws.{StubsEndAtTheirPlace, StubsAreSmall};
+ghost use Rattle.ifs_stub.specs.Laws.{StubsEndAtTheirPlace, StubsAreSmall, StubsAreRead, StubsKeepInterfaces, StubsAreReadBack, StubsAreMade, ExtractedHaveStubs, ExtractedAreMade};
 
 /// A stub file is as long as its parts, each at its place, and below 75,497,472 bytes.
 pub fn stubs_have_their_size()
     ensures places { StubsEndAtTheirPlace }
     ensures small { StubsAreSmall }
+{}
+
+/// A stub is read as the library that it stands for, which has the soname and the needed libraries of the interface
+/// and one row for each symbol. The interface of that library is the one that the stub was made from, but for
+/// what a stub has no place for: an unknown type is no type, an absent size is 0, and warnings and the name of the
+/// triple are gone.
+pub fn stubs_are_read_back()
+    ensures read { StubsAreRead }
+    ensures kept { StubsKeepInterfaces }
+    ensures read_back { StubsAreReadBack }
+{}
+
+/// The interface of a library that was read has a stub of the library's machine, order and width: it is within the
+/// limits, and its sizes have their places.
+pub fn extracted_interfaces_have_stubs()
+    ensures made { StubsAreMade }
+    ensures extracted { ExtractedHaveStubs }
+    ensures extracted_made { ExtractedAreMade }
 {}

@@ -29,7 +29,7 @@ pub use cause::StubCause;
 pub use collapse::symbols_of;
 pub use ifs_interface::TargetField;
 pub use interface::extract;
-pub use laws::stubs_have_their_size;
+pub use laws::{extracted_interfaces_have_stubs, stubs_are_read_back, stubs_have_their_size};
 pub use stub::emit;
 
 #[cfg(test)]

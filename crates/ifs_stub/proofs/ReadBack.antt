@@ -1,0 +1,14 @@
+pub mod Stands
+pub mod Each
+pub mod Names
+pub mod Rows
+pub mod Entries
+pub mod Parts
+pub mod Strings
+pub mod FileHeader
+pub mod Sections
+pub mod EntriesRead
+pub mod RowsRead
+pub mod Libraries
+pub mod Interfaces
+pub mod Stubs

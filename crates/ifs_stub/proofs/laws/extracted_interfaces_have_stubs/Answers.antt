@@ -1,0 +1,6 @@
+use Rattle.ifs_stub.proofs.Extracted.{extracted_have_stubs, extracted_are_made}
+use Rattle.ifs_stub.proofs.ReadBack.Stubs.{stubs_are_made}
+use Rattle.ifs_stub.proofs.laws.extracted_interfaces_have_stubs.Goals as goal
+
+pub returns : goal.returns
+returns c = record { made = stubs_are_made; extracted = extracted_have_stubs; extracted_made = extracted_are_made }
