@@ -1,7 +1,7 @@
 -- The names that are read are proper: they aren't empty, and have no NUL.
-use Rattle.std.proofs.Common.{◌≡◌, ℕ, zero, suc, ◌+◌, ◌<◌, ◌≤◌, Bool, true, false, cond, ltb, List, [], ◌∷◌, length, take, drop, Option, Some, None, refl, ap, ◌∙◌, arith}
-use Rattle.std.specs.Prelude.{not, ◌&&◌, ◌==◌, slice_range}
-use Rattle.std.specs.List.{list_all, filter_map, cons_option, prefix_len, position, position_or_len}
+use Rattle.std.proofs.Common.{◌≡◌, ℕ, suc, ◌+◌, Bool, true, false, cond, ltb, List, [], ◌∷◌, length, take, drop, Option, Some, None, refl, ap, ◌∙◌, arith}
+use Rattle.std.specs.Prelude.{not, ◌&&◌, ◌==◌}
+use Rattle.std.specs.List.{list_all, filter_map, cons_option, prefix_len, position_or_len}
 use Rattle.std.specs.Option.{option_map, option_and_then}
 use Rattle.ifs_bytes.specs.Name.{name_in}
 use Rattle.ifs_bytes.specs.Places.{places}
@@ -12,7 +12,6 @@ use Rattle.elf_file.specs.declared.header.Header.{Header}
 use Rattle.elf_file.specs.declared.symbol.Row.{Row}
 use Rattle.elf_dyn.specs.declared.places.Entries.{Entries}
 use Rattle.elf_dyn.specs.declared.places.Places.{Places}
-use Rattle.elf_dyn.specs.declared.places.Rows.{Rows}
 use Rattle.elf_dyn.specs.declared.places.Strings.{Strings}
 use Rattle.elf_dyn.specs.declared.constants.TheConstants.{DT_NEEDED, DT_SONAME}
 use Rattle.elf_dyn.specs.Entries.{entry, entry_name, first_with, needed_at, needed_of, soname_of}

@@ -1,6 +1,6 @@
 -- How many rows the dynamic symbol table has, by a hash table of it: the SysV one (gABI, "Hash Table") or
 -- the GNU one. Hash words have 32 bits; the words of the GNU table's Bloom filter have the file's width.
-use Rattle.std.specs.Prelude.{ℕ, zero, suc, ◌+◌, ◌-◌, ◌*◌, ◌%◌, ◌^◌, min, Bool, true, ◌==◌, nat_lt, if◌then◌else◌, List, [], ◌∷◌, length, max, Option, Some, None, Result, Ok, Err}
+use Rattle.std.specs.Prelude.{ℕ, zero, suc, ◌+◌, ◌-◌, ◌*◌, ◌%◌, Bool, true, ◌==◌, nat_lt, if◌then◌else◌, List, [], ◌∷◌, length, max, Option, Some, None, Result, Ok, Err}
 use Rattle.std.specs.List.{find, list_all, fold}
 use Rattle.ifs_bytes.specs.Carried.{carried}
 use Rattle.ifs_bytes.specs.Field.{lies, number_at, word_size}

@@ -1,5 +1,5 @@
 -- A library by the bytes of its file, or the first cause why it can't be read.
-use Rattle.std.specs.Prelude.{ℕ, ◌+◌, ◌==◌, nat_le, List, Option, Some, None, Result, Ok, Err}
+use Rattle.std.specs.Prelude.{ℕ, ◌+◌, ◌==◌, nat_le, List, Option, Some, None, Result, Ok}
 use Rattle.ifs_bytes.specs.Outcome.{◌>>=◌, check}
 use Rattle.elf_file.specs.Header.{header_of}
 use Rattle.elf_file.specs.declared.cause.ElfCause.{ElfCause}

@@ -1,5 +1,5 @@
 -- The rows of the dynamic symbol table (gABI, "Symbol Table"). Row 0 stands for no symbol.
-use Rattle.std.specs.Prelude.{ℕ, ◌+◌, ◌-◌, ◌*◌, ◌/◌, ◌%◌, ◌≤◌, Bool, not, ◌==◌, ◌&&◌, ◌||◌, if◌then◌else◌, List, length, Option, Some, None, is_none, option_map, Result, Ok, Err, count_by, sum_by}
+use Rattle.std.specs.Prelude.{ℕ, ◌+◌, ◌*◌, ◌/◌, ◌%◌, ◌≤◌, Bool, not, ◌==◌, ◌&&◌, ◌||◌, if◌then◌else◌, List, length, Option, Some, None, is_none, option_map, Result, Ok, Err, count_by, sum_by}
 use Rattle.std.specs.List.{find, filter_map}
 use Rattle.ifs_bytes.specs.Places.{places}
 use Rattle.elf_file.specs.Tables.{symbol_size, symbol_at}

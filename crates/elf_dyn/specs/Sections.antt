@@ -1,5 +1,5 @@
 -- A library's parts by its section headers (gABI, "Section Header").
-use Rattle.std.specs.Prelude.{ℕ, ◌/◌, ◌==◌, nat_lt, if◌then◌else◌, List, Option, Some, None, option_map, Result, Ok, Err}
+use Rattle.std.specs.Prelude.{ℕ, ◌/◌, ◌==◌, nat_lt, List, Option, option_map, Result, Ok}
 use Rattle.std.specs.List.{find}
 use Rattle.ifs_bytes.specs.Field.{lies}
 use Rattle.ifs_bytes.specs.Outcome.{◌>>=◌, check}

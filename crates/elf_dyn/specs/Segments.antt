@@ -1,6 +1,6 @@
 -- A library's parts by its program headers (gABI, "Program Header", "Dynamic Section"), where its sections
 -- don't give them: by PT_DYNAMIC, whose entries give addresses, which PT_LOAD maps to the file.
-use Rattle.std.specs.Prelude.{ℕ, ◌+◌, ◌-◌, ◌*◌, ◌/◌, Bool, ◌==◌, ◌&&◌, nat_lt, nat_le, if◌then◌else◌, List, Option, Some, None, option_map, Result, Ok, Err}
+use Rattle.std.specs.Prelude.{ℕ, ◌+◌, ◌-◌, ◌*◌, ◌/◌, Bool, ◌==◌, ◌&&◌, nat_lt, nat_le, List, Option, Some, None, option_map, Result, Ok}
 use Rattle.std.specs.List.{find}
 use Rattle.std.specs.Option.{ok_or}
 use Rattle.ifs_bytes.specs.Field.{lies}

@@ -1,4 +1,3 @@
-use Rattle.std.proofs.Common.{ap, ◌∙◌}
 use Rattle.ifs_bytes.proofs.Range.{filter_map_turn}
 use Rattle.elf_dyn.specs.Entries.{needed_at}
 use Rattle.elf_dyn.proofs.entries.needed_of.Goals as goal

@@ -1,4 +1,4 @@
-use Rattle.std.proofs.Common.{◌≡◌, ◌-◌, ◌*◌, nat_lt}
+use Rattle.std.proofs.Common.{◌≡◌, ◌-◌, nat_lt}
 use Rattle.std.specs.Prelude.{◌&&◌, Ok, max}
 use Rattle.std.specs.List.{fold, list_all}
 use Rattle.ifs_bytes.specs.Outcome.{◌>>=◌}

@@ -1,6 +1,4 @@
-use Rattle.std.proofs.Common.{◌≡◌, ◌+◌, arith}
-use Rattle.std.specs.Prelude.{sum_by}
-use Rattle.ifs_bytes.specs.Places.{places}
+use Rattle.std.proofs.Common.{arith}
 use Rattle.ifs_bytes.proofs.Range.{sum_end}
 use Rattle.elf_dyn.specs.Rows.{candidate_size, candidate_bytes}
 use Rattle.elf_dyn.proofs.rows.candidate_bytes.Goals as goal
