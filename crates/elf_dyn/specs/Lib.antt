@@ -4,4 +4,8 @@ pub mod Rows
 pub mod Sections
 pub mod Hash
 pub mod Segments
+pub mod Rank
+pub mod Ranked
+pub mod ByName
+pub mod Found
 pub mod Library

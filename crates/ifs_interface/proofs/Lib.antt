@@ -1,3 +1,7 @@
 pub mod Arches
+pub mod Lists
+pub mod NameOrder
+pub mod Lookup
+pub mod WantedRows
 pub mod Names
 pub mod Repeats

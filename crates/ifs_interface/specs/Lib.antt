@@ -5,3 +5,5 @@ pub mod Interface
 pub mod Extracted
 pub mod Parts
 pub mod Fields
+pub mod Facts
+pub mod Wanted

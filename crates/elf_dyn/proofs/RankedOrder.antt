@@ -1,6 +1,7 @@
--- A stable sort of rows by their ranks, and by their names where the ranks are equal, is one by name.
-use Rattle.std.proofs.Common.{◌≡◌, ℕ, ◌+◌, ◌<◌, Bool, true, not, ◌&&◌, List, [], ◌∷◌, length, map, filter, cond, get_or, refl, sym, ap, ◌∙◌, subst, arith}
-use Rattle.std.specs.List.{All, list_all}
+-- A stable sort of rows by their ranks, and by their names where the ranks are equal, is one by name; what
+-- moved with the rows tells their places.
+use Rattle.std.proofs.Common.{◌≡◌, ℕ, ◌+◌, ◌<◌, Bool, true, not, ◌&&◌, List, [], ◌∷◌, length, map, filter, cond, get_or, Some, refl, sym, ap, ◌∙◌, zero-add, arith}
+use Rattle.std.specs.List.{All, list_all, cons_option, enumerate_from, slice_get}
 use Rattle.std.specs.List.Sorted.{IsPermutation, IsSortedBy, IsStableBy, ties}
 use Rattle.std.specs.declared.cmp.Ordering.{Ordering}
 use Rattle.std.specs.declared.cmp.Ordering.TheVariants.{Less, Equal, Greater}
@@ -10,19 +11,21 @@ use Rattle.std.specs.Cmp.Lexicographic.{nat_list_cmp_total, texts_ties}
 use Rattle.std.proofs.lemmas.List.{get_or-map, length-map}
 use Rattle.std.proofs.lemmas.List.Sums.{AllPass-from_list_all}
 use Rattle.std.proofs.lemmas.List.Elements.{All-tail}
+use Rattle.std.proofs.lemmas.List.FromFn.{length-enumerate_from, get_or-enumerate_from}
 use Rattle.std.proofs.lemmas.List.Sorted.{ranks_by, All-permutation}
-use denote.Ref.{Bor}
+use Rattle.std.proofs.lemmas.Option.{slice_get-get_or}
 use Rattle.ifs_interface.specs.declared.row.DynRow.{DynRow}
+use Rattle.ifs_interface.specs.Triple.{same_name}
 use Rattle.ifs_interface.specs.Interface.{comes_before}
 use Rattle.ifs_interface.specs.Extracted.{rows_named}
-use Rattle.ifs_stub.specs.declared.ranked.Ranked.{Ranked}
-use Rattle.ifs_stub.specs.Rank.{are_bytes, rank}
-use Rattle.ifs_stub.specs.Rows.{pointed, AreInNameOrder, IsSortedByName}
+use Rattle.elf_dyn.specs.declared.ranked.Ranked.{Ranked}
+use Rattle.elf_dyn.specs.Rank.{are_bytes, rank}
+use Rattle.elf_dyn.specs.Ranked.{placed}
+use Rattle.elf_dyn.specs.ByName.{rows_at, AreInNameOrder, IsSortedByName}
 use Rattle.ifs_interface.proofs.Names.{same_name-is}
-use Rattle.ifs_stub.proofs.NameOrder.{compared, equal_ties}
-use Rattle.ifs_stub.proofs.Lists.{filter_map_of, map_map}
-use Rattle.ifs_stub.proofs.Runs.{is_named}
-use Rattle.ifs_stub.proofs.Ranking.{AreBytes, bytes_from, by_rank}
+use Rattle.ifs_interface.proofs.NameOrder.{compared, equal_ties}
+use Rattle.ifs_interface.proofs.Lists.{filter_map_of, map_map}
+use Rattle.elf_dyn.proofs.Ranking.{AreBytes, bytes_from, by_rank}
 
 -- ---- the order of the sort
 
@@ -40,7 +43,11 @@ before_ranks = ranks_by total (λ r. r)
 
 -- ---- rows that have the ranks of their names
 
-abbrev row_of : Ranked → DynRow
+-- the row has the name
+abbrev pub is_named : List ℕ → DynRow → Bool
+is_named name row = same_name row.name name
+
+abbrev pub row_of : Ranked → DynRow
 row_of r = r.row.now
 
 -- the rank is that of the name
@@ -61,22 +68,22 @@ all_ranked front rows xs same ranked bytes k d within =
 
 -- ---- they rise
 
-rising : (front : List ℕ) (xs : List Ranked) → All (IsRanked front) xs → IsSortedBy before xs → AreInNameOrder (map (λ r. r.row) xs)
+rising : (front : List ℕ) (xs : List Ranked) → All (IsRanked front) xs → IsSortedBy before xs → AreInNameOrder (map row_of xs)
 rising front xs all up k d low within =
-    let e : Ranked = record { rank = 0; row = d } in
-    let long = length-map xs (λ r. r.row) in
+    let e : Ranked = record { rank = 0; place = 0; row = record { ref_ptr = (0, 0); now = d } } in
+    let long = length-map xs row_of in
     let later : k + 1 < length xs = omega arith in
     let earlier : k < length xs = omega arith in
-    let second = get_or-map (λ r. r.row) xs (k + 1) e d later in
-    let first = get_or-map (λ r. r.row) xs k e d earlier in
-    (λ i. comes_before (second i).now.name (first i).now.name)
+    let second = get_or-map row_of xs (k + 1) e d later in
+    let first = get_or-map row_of xs k e d earlier in
+    (λ i. comes_before (second i).name (first i).name)
     ∙ sym (before_is front (get_or xs (k + 1) e) (get_or xs k e) (all (k + 1) e later) (all k e earlier))
     ∙ up k e low (omega arith)
 
 -- ---- those of one name keep their order
 
 a_ranked : List ℕ → List ℕ → Ranked
-a_ranked front name = record { rank = rank front name; row = record { ref_ptr = (0, 0); now = record { name = name; binding = 1; kind = 0; shndx = 0; value = 0; size = 0 } } }
+a_ranked front name = record { rank = rank front name; place = 0; row = record { ref_ptr = (0, 0); now = record { name = name; binding = 1; kind = 0; shndx = 0; value = 0; size = 0 } } }
 
 equal_then : (o c : Ordering) → (is_eq c ≡ true → o ≡ Equal) → is_eq c ≡ is_eq (ordering_then o c)
 equal_then o Equal h = ap (λ p. is_eq (ordering_then p Equal)) (sym (h refl))
@@ -112,12 +119,37 @@ named_by_ties front name xs all =
 
 -- ---- what the sort leaves
 
-pub sorted_by_rank : (front : List ℕ) (rows : List DynRow) (old new : List Ranked) (sorted : List (Bor DynRow)) → map row_of old ≡ rows → map (λ r. r.rank) old ≡ map (λ row. rank front row.name) rows → list_all (λ r. are_bytes r.row.now.name) old ≡ true → IsPermutation old new → IsSortedBy before new → IsStableBy before old new → map (λ r. r.row) new ≡ sorted → IsSortedByName rows sorted
-sorted_by_rank front rows old new sorted same ranked bytes moved up stable is =
+pub sorted_by_rank : (front : List ℕ) (rows : List DynRow) (old new : List Ranked) → map row_of old ≡ rows → map (λ r. r.rank) old ≡ map (λ row. rank front row.name) rows → list_all (λ r. are_bytes r.row.now.name) old ≡ true → IsPermutation old new → IsSortedBy before new → IsStableBy before old new → IsSortedByName rows (map row_of new)
+sorted_by_rank front rows old new same ranked bytes moved up stable =
     let all_old : All (IsRanked front) old = all_ranked front rows old same ranked bytes in
     let all_new : All (IsRanked front) new = All-permutation (IsRanked front) old new moved all_old in
-    let shown : pointed sorted ≡ map row_of new = ap pointed (sym is) ∙ map_map (λ b. b.now) (λ r. r.row) new in
     record {
-      rising = subst AreInNameOrder is (rising front new all_new up);
-      same_rows = λ name. ap (rows_named name) shown ∙ named_by_ties front name new all_new ∙ ap (map row_of) (stable (a_ranked front name)) ∙ sym (named_by_ties front name old all_old) ∙ ap (rows_named name) same;
+      rising = rising front new all_new up;
+      same_rows = λ name. named_by_ties front name new all_new ∙ ap (map row_of) (stable (a_ranked front name)) ∙ sym (named_by_ties front name old all_old) ∙ ap (rows_named name) same;
     }
+
+-- ---- their places
+
+-- the row stands at its place
+abbrev IsPlaced : List DynRow → Ranked → Type 0
+IsPlaced rows r = slice_get rows r.place ≡ Some r.row.now
+
+all_placed : (rows : List DynRow) (xs : List Ranked) → map placed xs ≡ enumerate_from 0 rows → All (IsPlaced rows) xs
+all_placed rows xs numbered k d within =
+    let own = get_or xs k d in
+    let e : ℕ × DynRow = (0, own.row.now) in
+    let long : length rows ≡ length xs = sym (length-enumerate_from 0 rows) ∙ ap length (sym numbered) ∙ length-map xs placed in
+    let there : k < length rows = omega arith in
+    let is : placed own ≡ (0 + k, get_or rows k own.row.now) = sym (get_or-map placed xs k d e within) ∙ ap (λ ps. get_or ps k e) numbered ∙ get_or-enumerate_from 0 rows k e there in
+    let place : own.place ≡ k = ap (λ p. p.0) is ∙ zero-add k in
+    ap (slice_get rows) place ∙ slice_get-get_or rows k own.row.now there ∙ ap (λ p. Some p.1) (sym is)
+
+rows_of_places : (rows : List DynRow) (xs : List Ranked) → All (IsPlaced rows) xs → rows_at rows (map (λ r. r.place) xs) ≡ map row_of xs
+rows_of_places rows [] all = refl
+rows_of_places rows (x ∷ xs) all =
+    ap (λ o. cons_option o (rows_at rows (map (λ r. r.place) xs))) (all 0 x (omega arith))
+    ∙ ap (λ ys. row_of x ∷ ys) (rows_of_places rows xs (All-tail (IsPlaced rows) x xs all))
+
+pub placed_by_rank : (rows : List DynRow) (old new : List Ranked) → map placed old ≡ enumerate_from 0 rows → IsPermutation old new → rows_at rows (map (λ r. r.place) new) ≡ map row_of new
+placed_by_rank rows old new numbered moved =
+    rows_of_places rows new (All-permutation (IsPlaced rows) old new moved (all_placed rows old numbered))

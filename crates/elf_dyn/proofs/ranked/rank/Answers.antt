@@ -1,6 +1,6 @@
 use Rattle.std.proofs.Common.{sym, ◌∙◌, rules}
-use Rattle.ifs_stub.proofs.Ranking.{rank_before, rank_behind, less_is, are_bytes_of}
-use Rattle.ifs_stub.proofs.ranked.rank.Goals as goal
+use Rattle.elf_dyn.proofs.Ranking.{rank_before, rank_behind, less_is, are_bytes_of}
+use Rattle.elf_dyn.proofs.ranked.rank.Goals as goal
 
 pub returns-in-None-clause-rank : goal.returns-in-None-clause-rank
 returns-in-None-clause-rank c = sym (rank_before c.args.front.now c.args.name.now c.in-None.ensures.cases (sym (less_is c.args.name.now c.args.front.now) ∙ sym c.lt.ensures ∙ c.if-lt.true))

@@ -1,20 +1,22 @@
-//! Rows behind numbers that put most of them in order.
+//! Rows behind numbers that put most of them in order of their names.
 
 ghost use Rattle.std.specs.Prelude.{◌≡◌, true, map, IfOk};
-ghost use Rattle.std.specs.List.{list_all};
+ghost use Rattle.std.specs.List.{enumerate_from, list_all};
 ghost use Rattle.std.specs.Ordering.{nat_cmp, ordering_then};
 ghost use Rattle.std.specs.Cmp.Lexicographic.{slice_cmp};
-ghost use Rattle.ifs_stub.specs.Rank.{are_bytes, leading, rank};
+ghost use Rattle.elf_dyn.specs.Rank.{are_bytes, leading, rank};
+ghost use Rattle.elf_dyn.specs.Ranked.{placed};
 
 use ifs_bytes::Memory;
 use ifs_interface::DynRow;
 use std::alloc::Global;
 use std::cmp::Ordering;
 
-// A row, and the rank of its name.
+// A row, its place and the rank of its name.
 #[derive(Clone, Copy)]
 pub(crate) struct Ranked<'a> {
     pub(crate) rank: u64,
+    pub(crate) place: usize,
     pub(crate) row: &'a DynRow,
 }
 
@@ -49,11 +51,14 @@ pub(crate) fn with_ranks<'a>(
     ensures rows { IfOk result (λ ranked. map (λ r. r.row.now) ranked.items ≡ rows.now) }
     ensures ranks { IfOk result (λ ranked. map (λ r. r.rank) ranked.items ≡ map (λ row. rank front.now row.name) rows.now) }
     ensures bytes { IfOk result (λ ranked. list_all (λ r. are_bytes r.row.now.name) ranked.items ≡ true) }
+    ensures places { IfOk result (λ ranked. map placed ranked.items ≡ enumerate_from 0 rows.now) }
 {
     Ok(
         rows.iter()
-            .map(|row| Ranked {
+            .enumerate()
+            .map(|(place, row)| Ranked {
                 rank: rank(front, row.name.as_bytes()),
+                place,
                 row,
             })
             .collect(alloc)?,
