@@ -5,3 +5,4 @@ pub mod Ranking
 pub mod RankedOrder
 pub mod Found
 pub mod Index
+pub mod Distances

@@ -1,4 +1,5 @@
 pub mod Strings
+pub mod NameEnds
 pub mod Entries
 pub mod Rows
 pub mod Sections

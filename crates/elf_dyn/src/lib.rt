@@ -13,6 +13,7 @@ mod entries;
 mod facts;
 mod hash;
 mod library;
+mod names;
 mod places;
 mod ranked;
 mod rows;

@@ -69,7 +69,7 @@ impl Library {
         }
         let places = places_of(&elf)?;
         let count = entry_count(bytes, places.entries);
-        check(bytes, &places, count)?;
+        check(alloc, bytes, &places, count)?;
         Ok(read(alloc, bytes, &header, &places, count)?)
     }
 
@@ -205,23 +205,23 @@ fn listed_count(bytes: &[u8], places: &Places, count: u64) -> u64
 
 // How many bytes the names have together.
 #[tactic(auto, unfolding(crate::specs::Library::name_bytes))]
-fn name_bytes(bytes: &[u8], places: &Places, count: u64) -> u64
+fn name_bytes(alloc: Global, bytes: &[u8], places: &Places, count: u64) -> Result<u64, Memory>
     requires lie { PlacesLie bytes.now places.now }
     requires within { count ≤ places.now.entries.room }
-    ensures { result ≡ name_bytes bytes.now places.now count }
+    ensures { IfOk result (λ total. total ≡ name_bytes bytes.now places.now count) }
 {
     let soname = size_of(soname_of(bytes, places.entries, places.entry_strings, count));
-    let needed = needed_bytes(bytes, places.entries, places.entry_strings, count);
-    let candidates = candidate_bytes(bytes, places.rows, places.row_strings);
-    candidates.saturating_add(soname.saturating_add(needed))
+    let needed = needed_bytes(alloc, bytes, places.entries, places.entry_strings, count)?;
+    let candidates = candidate_bytes(alloc, bytes, places.rows, places.row_strings)?;
+    Ok(candidates.saturating_add(soname.saturating_add(needed)))
 }
 
 // Looks at the names and the limits.
 #[tactic(auto, unfolding(crate::specs::Library::checked))]
-fn check(bytes: &[u8], places: &Places, count: u64) -> Result<(), ElfCause>
+fn check(alloc: Global, bytes: &[u8], places: &Places, count: u64) -> Result<(), ElfCause>
     requires lie { PlacesLie bytes.now places.now }
     requires within { count ≤ places.now.entries.room }
-    ensures { result ≡ checked bytes.now places.now count }
+    ensures { UnlessMemory ElfCause.Memory result (checked bytes.now places.now count) }
 {
     entries::check_names(bytes, places.entries, places.entry_strings, count)?;
     let listed = listed_count(bytes, places, count);
@@ -229,7 +229,7 @@ fn check(bytes: &[u8], places: &Places, count: u64) -> Result<(), ElfCause>
         return Err(ElfCause::TooMany(listed));
     }
     rows::check_names(bytes, places.rows, places.row_strings)?;
-    let size = name_bytes(bytes, places, count);
+    let size = name_bytes(alloc, bytes, places, count)?;
     if size > MOST_NAME_BYTES {
         return Err(ElfCause::NamesTooLarge(size));
     }
