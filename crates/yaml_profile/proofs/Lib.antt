@@ -1,1 +1,6 @@
 pub mod Readings
+pub mod PrintedBytes
+pub mod PlainBack
+pub mod SingleBack
+pub mod DoubleBack
+pub mod OneToken

@@ -1,8 +1,7 @@
 -- What holds of texts and their documents.
-use Rattle.std.specs.Prelude.{◌≡◌, ◌↔◌, ℕ, List, Result, Ok, Err, ◌⊎◌}
+use Rattle.std.specs.Prelude.{◌≡◌, ◌↔◌, ℕ, List, Ok, Err, ◌⊎◌}
 use Rattle.yaml_tokens.specs.declared.kind.Fault.{Fault}
 use Rattle.yaml_nodes.specs.declared.document.Document.{Document}
-use Rattle.yaml_nodes.specs.declared.cause.YamlCause.{YamlCause}
 use Rattle.yaml_nodes.specs.declared.cause.YamlCause.TheVariants.{At}
 use Rattle.yaml_profile.specs.Yaml.{Yaml, YamlFault, read_of}
 
