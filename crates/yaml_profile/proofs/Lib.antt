@@ -1,4 +1,5 @@
 pub mod Readings
+pub mod Offsets
 pub mod PrintedBytes
 pub mod PlainBack
 pub mod SingleBack
