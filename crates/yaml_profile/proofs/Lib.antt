@@ -1,1 +1,7 @@
 pub mod Readings
+pub mod Offsets
+pub mod PrintedBytes
+pub mod PlainBack
+pub mod SingleBack
+pub mod DoubleBack
+pub mod OneToken

@@ -1,14 +1,12 @@
 -- The reading of a text gives just its documents or its fault.
-use Rattle.std.proofs.Common.{◌≡◌, ◌↔◌, ℕ, ◌⊎◌, inl, inr, List, Option, Some, None, Result, Ok, Err, refl, ap, sym, subst, ◌∙◌}
+use Rattle.std.proofs.Common.{◌≡◌, ℕ, ◌⊎◌, inl, inr, List, Option, Some, None, Result, Ok, Err, refl, ap, sym, subst, ◌∙◌}
 use Rattle.yaml_tokens.specs.Faults.{fault_of}
 use Rattle.yaml_tokens.specs.Tokens.{tokens_of}
 use Rattle.yaml_tokens.specs.declared.kind.Fault.{Fault}
-use Rattle.yaml_tokens.specs.declared.kind.YamlKind.{YamlKind}
-use Rattle.yaml_tokens.specs.declared.kind.YamlKind.TheVariants.{Shape}
 use Rattle.yaml_nodes.specs.declared.document.Document.{Document}
 use Rattle.yaml_nodes.specs.declared.cause.YamlCause.{YamlCause}
 use Rattle.yaml_nodes.specs.declared.cause.YamlCause.TheVariants.{At, Memory}
-use Rattle.yaml_nodes.specs.Documents.{Part, parts, Documents, ShapeAt, documents_of}
+use Rattle.yaml_nodes.specs.Documents.{parts, documents_of}
 use Rattle.yaml_nodes.specs.Laws.{Are}
 use Rattle.yaml_nodes.proofs.DocumentsAgree.{documents_are, documents_complete, shape_complete}
 use Rattle.yaml_profile.specs.Yaml.{Yaml, YamlFault, read_by, read_of}

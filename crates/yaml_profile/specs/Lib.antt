@@ -1,3 +1,4 @@
 pub mod Printed
 pub mod Yaml
+pub mod ReadBack
 pub mod Laws

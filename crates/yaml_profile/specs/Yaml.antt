@@ -1,5 +1,5 @@
 -- The documents that a text is, or what is wrong with it (YAML 1.2, the profile of docs/format/yaml.md).
-use Rattle.std.specs.Prelude.{◌≡◌, ℕ, List, Option, Some, None, Result, Ok, Err, ◌⊎◌}
+use Rattle.std.specs.Prelude.{◌≡◌, ℕ, List, Option, Some, None, Result, Err, ◌⊎◌}
 use Rattle.yaml_tokens.specs.Faults.{fault_of}
 use Rattle.yaml_tokens.specs.Tokens.{tokens_of}
 use Rattle.yaml_tokens.specs.declared.kind.Fault.{Fault}

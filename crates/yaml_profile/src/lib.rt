@@ -7,7 +7,7 @@ mod laws;
 mod printed;
 mod reading;
 
-pub use laws::texts_have_one_reading;
+pub use laws::{printed_scalars_are_read_back, texts_have_one_reading};
 pub use printed::{append_scalar, scalar_text};
 pub use reading::read;
 pub use yaml_nodes::{Document, Entry, Node, YamlCause};

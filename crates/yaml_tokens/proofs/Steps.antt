@@ -39,7 +39,7 @@ choice true comment x y h = let e : false ≡ true = h in cc
 choice false true x y h = let e : false ≡ true = h in cc
 choice false false x y h = refl
 
-cut_piece : (fresh : Bool) (before : Before) (at column b : ℕ) (rest : List ℕ) → begins_piece fresh (b ∷ rest) ≡ true
+pub cut_piece : (fresh : Bool) (before : Before) (at column b : ℕ) (rest : List ℕ) → begins_piece fresh (b ∷ rest) ≡ true
     → cut zero fresh before at column (b ∷ rest)
     ≡ front_piece (front before b rest) at column b rest
     ∷ cut zero (is_dash (front before b rest)) (after before (front before b rest).kind) at (column + (1 + (front before b rest).size)) (drop (front before b rest).size rest)
