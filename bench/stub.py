@@ -70,12 +70,16 @@ def padded(data):
 
 
 def library(count):
-    """A library of that many symbols: 64-bit, little-endian, with section headers."""
-    rows, strings = symbols_of(count)
+    """A library of that many symbols."""
+    return library_of(*symbols_of(count))
+
+
+def library_of(rows, strings):
+    """A library of these rows and strings: 64-bit, little-endian, with section headers."""
     soname_at = len(strings)
     strings += SONAME + b"\0"
     parts, places, at = [], [], 64 + 2 * 56
-    for data in (rows, strings, hash_of(count)):
+    for data in (rows, strings, hash_of(len(rows) // 24 - 1)):
         places.append((at, len(data)))
         parts.append(padded(data))
         at += len(parts[-1])

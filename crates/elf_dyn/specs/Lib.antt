@@ -1,7 +1,12 @@
 pub mod Strings
+pub mod NameEnds
 pub mod Entries
 pub mod Rows
 pub mod Sections
 pub mod Hash
 pub mod Segments
+pub mod Rank
+pub mod Ranked
+pub mod ByName
+pub mod Found
 pub mod Library

@@ -32,6 +32,8 @@ pub const DT_GNU_HASH: u64 = 0x6fff_fef5;
 pub const DT_VERDEF: u64 = 0x6fff_fffc;
 /// The binding of a symbol that no other file sees ("Symbol Table").
 pub const STB_LOCAL: u8 = 0;
+/// The binding of a symbol that gives way to another of its name.
+pub const STB_WEAK: u8 = 2;
 /// The visibility of a symbol as its binding says.
 pub const STV_DEFAULT: u8 = 0;
 /// The visibility of a symbol that others see and can't replace.

@@ -7,8 +7,9 @@ ghost use Rattle.ifs_bytes.specs.Carried.{carried};
 ghost use Rattle.elf_dyn.specs.Strings.{StringsLie, bytes_of};
 
 use crate::constants::{DT_NEEDED, DT_NULL, DT_SONAME};
+use crate::names::{Lengths, Names};
 use crate::places::{Entries, Strings};
-use crate::strings::{name_of, size_of, unless_empty};
+use crate::strings::{name_of, unless_empty};
 use elf_file::{Dyn, ElfCause, NamePlace, dynamic_entry_at, dynamic_size};
 use ifs_bytes::{Memory, Text};
 use std::alloc::Global;
@@ -76,16 +77,15 @@ pub fn value_with(bytes: &[u8], entries: Entries, count: u64, tag: u64) -> Optio
 }
 
 // Whether entry `i` is named, where the first DT_SONAME stands at `soname`, and its name is bad.
-fn is_bad(bytes: &[u8], entries: Entries, strings: Strings, soname: Option<u64>, i: u64) -> bool
-    requires lie { EntriesLie bytes.now entries }
-    requires strings_lie { StringsLie bytes.now strings }
+fn is_bad(names: &Names, entries: Entries, soname: Option<u64>, i: u64) -> bool
+    requires lie { EntriesLie names.now.bytes.now entries }
     requires within { i < entries.room }
-    ensures { result
-        ≡ (is_named bytes.now entries soname i && is_none (entry_name bytes.now entries strings i)) }
+    ensures { result ≡ (is_named names.now.bytes.now entries soname i
+        && is_none (entry_name names.now.bytes.now entries names.now.strings i)) }
 {
-    let found = entry(bytes, entries, i);
+    let found = entry(names.bytes, entries, i);
     let named = found.tag == DT_NEEDED || is_place(soname, i);
-    named && name_of(bytes, strings, found.value).is_none()
+    named && names.none_at(found.value)
 }
 
 fn is_place(place: Option<u64>, i: u64) -> bool
@@ -99,15 +99,14 @@ fn is_place(place: Option<u64>, i: u64) -> bool
 
 // The first named entry whose name is bad, of the `count` that count.
 #[tactic(auto, unfolding(crate::specs::Entries::bad_entry), using(ifs_bytes::proofs::Range::find_here, ifs_bytes::proofs::Range::find_later, ifs_bytes::proofs::Range::find_end))]
-fn bad_entry(bytes: &[u8], entries: Entries, strings: Strings, count: u64) -> Option<u64>
-    requires lie { EntriesLie bytes.now entries }
-    requires strings_lie { StringsLie bytes.now strings }
+fn bad_entry(names: &Names, entries: Entries, count: u64) -> Option<u64>
+    requires lie { EntriesLie names.now.bytes.now entries }
     requires within { count ≤ entries.room }
-    ensures { result ≡ bad_entry bytes.now entries strings count }
+    ensures { result ≡ bad_entry names.now.bytes.now entries names.now.strings count }
 {
-    let soname = first_with(bytes, entries, count, DT_SONAME);
+    let soname = first_with(names.bytes, entries, count, DT_SONAME);
     for i in 0..count {
-        if is_bad(bytes, entries, strings, soname, i) {
+        if is_bad(names, entries, soname, i) {
             return Some(i);
         }
     }
@@ -126,7 +125,8 @@ pub fn check_names(
     requires within { count ≤ entries.room }
     ensures { result ≡ unless_bad (bad_entry bytes.now entries strings count) }
 {
-    match bad_entry(bytes, entries, strings, count) {
+    let names = Names::new(bytes, strings);
+    match bad_entry(&names, entries, count) {
         Some(i) => Err(ElfCause::BadName(NamePlace::Dynamic(i))),
         None => Ok(()),
     }
@@ -194,28 +194,51 @@ pub fn needed_of(
 }
 
 // How many bytes the name of entry `i` has, where that is DT_NEEDED.
-fn needed_size(bytes: &[u8], entries: Entries, strings: Strings, i: u64) -> u64
-    requires lie { EntriesLie bytes.now entries }
-    requires strings_lie { StringsLie bytes.now strings }
+#[tactic(auto, using(crate::proofs::Distances::empty_has_none))]
+fn needed_size(lengths: &Lengths, entries: Entries, i: u64) -> u64
+    requires lie { EntriesLie lengths.now.names.bytes.now entries }
     requires within { i < entries.room }
-    ensures { result ≡ bytes_of (needed_at bytes.now entries strings i) }
+    ensures { result
+        ≡ bytes_of (needed_at lengths.now.names.bytes.now entries lengths.now.names.strings i) }
 {
-    size_of(needed_at(bytes, entries, strings, i))
+    let found = entry(lengths.names.bytes, entries, i);
+    if found.tag == DT_NEEDED {
+        lengths.at(found.value)
+    } else {
+        0
+    }
 }
 
-/// How many bytes the names of the needed libraries have together; 2^64 - 1 stands for any more.
+// How many bytes the names of the needed libraries have together; 2^64 - 1 stands for any more.
 #[tactic(auto, unfolding(crate::specs::Entries::needed_bytes), using(ifs_bytes::proofs::Range::sum_more, ifs_bytes::proofs::Range::sum_end))]
-pub fn needed_bytes(bytes: &[u8], entries: Entries, strings: Strings, count: u64) -> u64
-    requires lie { EntriesLie bytes.now entries }
-    requires strings_lie { StringsLie bytes.now strings }
+fn needed_total(lengths: &Lengths, entries: Entries, count: u64) -> u64
+    requires lie { EntriesLie lengths.now.names.bytes.now entries }
     requires within { count ≤ entries.room }
-    ensures { result ≡ carried (needed_bytes bytes.now entries strings count) }
+    ensures { result ≡ carried
+        (needed_bytes lengths.now.names.bytes.now entries lengths.now.names.strings count) }
 {
     let mut total = 0u64;
     for i in 0..count {
-        total = total.saturating_add(needed_size(bytes, entries, strings, i));
+        total = total.saturating_add(needed_size(lengths, entries, i));
     }
     total
+}
+
+/// How many bytes the names of the needed libraries have together; 2^64 - 1 stands for any more.
+pub fn needed_bytes(
+    alloc: Global,
+    bytes: &[u8],
+    entries: Entries,
+    strings: Strings,
+    count: u64,
+) -> Result<u64, Memory>
+    requires lie { EntriesLie bytes.now entries }
+    requires strings_lie { StringsLie bytes.now strings }
+    requires within { count ≤ entries.room }
+    ensures { IfOk result (λ total. total ≡ carried (needed_bytes bytes.now entries strings count)) }
+{
+    let lengths = Lengths::new(alloc, bytes, strings)?;
+    Ok(needed_total(&lengths, entries, count))
 }
 
 /// How many entries are DT_NEEDED.

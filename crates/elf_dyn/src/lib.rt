@@ -7,16 +7,21 @@
 #![tactic(auto)]
 
 mod addresses;
+mod by_name;
 mod constants;
 mod entries;
+mod facts;
 mod hash;
 mod library;
+mod names;
 mod places;
+mod ranked;
 mod rows;
 mod sections;
 mod segments;
 mod strings;
 
+pub use by_name::places_by_name;
 pub use constants::{MOST_NAME_BYTES, MOST_ROWS};
 pub use elf_file::{ElfCause, NamePlace};
 pub use ifs_interface::DynRow;

@@ -7,8 +7,9 @@ ghost use Rattle.elf_dyn.specs.Rows.{RowsLie, row, row_name, binding_of, type_of
 ghost use Rattle.elf_dyn.specs.Strings.{StringsLie};
 
 use crate::constants::{STB_LOCAL, STV_DEFAULT, STV_PROTECTED};
+use crate::names::{Lengths, Names};
 use crate::places::{Rows, Strings};
-use crate::strings::{name_of, size_of, unless_empty};
+use crate::strings::{name_of, unless_empty};
 use elf_file::{ElfCause, NamePlace, Row, symbol_row_at, symbol_size};
 use ifs_bytes::{Memory, Text};
 use ifs_interface::DynRow;
@@ -58,26 +59,24 @@ pub fn candidate_count(bytes: &[u8], rows: Rows) -> u64
 }
 
 // Whether row `i` is a candidate whose name is bad.
-fn is_bad(bytes: &[u8], rows: Rows, strings: Strings, i: u64) -> bool
-    requires lie { RowsLie bytes.now rows }
-    requires strings_lie { StringsLie bytes.now strings }
+fn is_bad(names: &Names, rows: Rows, i: u64) -> bool
+    requires lie { RowsLie names.now.bytes.now rows }
     requires within { i < rows.count }
-    ensures { result
-        ≡ (is_candidate (row bytes.now rows i) && is_none (row_name bytes.now rows strings i)) }
+    ensures { result ≡ (is_candidate (row names.now.bytes.now rows i)
+        && is_none (row_name names.now.bytes.now rows names.now.strings i)) }
 {
-    let row = row(bytes, rows, i);
-    is_candidate(row) && name_of(bytes, strings, u64::from(row.name)).is_none()
+    let row = row(names.bytes, rows, i);
+    is_candidate(row) && names.none_at(u64::from(row.name))
 }
 
 // The first candidate whose name is bad.
 #[tactic(auto, unfolding(crate::specs::Rows::bad_row), using(ifs_bytes::proofs::Range::find_here, ifs_bytes::proofs::Range::find_later, ifs_bytes::proofs::Range::find_end))]
-fn bad_row(bytes: &[u8], rows: Rows, strings: Strings) -> Option<u64>
-    requires lie { RowsLie bytes.now rows }
-    requires strings_lie { StringsLie bytes.now strings }
-    ensures { result ≡ bad_row bytes.now rows strings }
+fn bad_row(names: &Names, rows: Rows) -> Option<u64>
+    requires { RowsLie names.now.bytes.now rows }
+    ensures { result ≡ bad_row names.now.bytes.now rows names.now.strings }
 {
     for i in 1..rows.count {
-        if is_bad(bytes, rows, strings, i) {
+        if is_bad(names, rows, i) {
             return Some(i);
         }
     }
@@ -90,38 +89,54 @@ pub fn check_names(bytes: &[u8], rows: Rows, strings: Strings) -> Result<(), Elf
     requires strings_lie { StringsLie bytes.now strings }
     ensures { result ≡ unless_bad (bad_row bytes.now rows strings) }
 {
-    match bad_row(bytes, rows, strings) {
+    let names = Names::new(bytes, strings);
+    match bad_row(&names, rows) {
         Some(i) => Err(ElfCause::BadName(NamePlace::Symbol(i))),
         None => Ok(()),
     }
 }
 
 // How many bytes the name of row `i` has, where it is a candidate.
-fn candidate_size(bytes: &[u8], rows: Rows, strings: Strings, i: u64) -> u64
-    requires lie { RowsLie bytes.now rows }
-    requires strings_lie { StringsLie bytes.now strings }
+fn candidate_size(lengths: &Lengths, rows: Rows, i: u64) -> u64
+    requires lie { RowsLie lengths.now.names.bytes.now rows }
     requires within { i < rows.count }
-    ensures { result ≡ candidate_size bytes.now rows strings i }
+    ensures { result
+        ≡ candidate_size lengths.now.names.bytes.now rows lengths.now.names.strings i }
 {
-    let row = row(bytes, rows, i);
+    let row = row(lengths.names.bytes, rows, i);
     if !is_candidate(row) {
         return 0;
     }
-    size_of(name_of(bytes, strings, u64::from(row.name)))
+    lengths.at(u64::from(row.name))
 }
 
-/// How many bytes the names of the candidates have together; 2^64 - 1 stands for any more.
+// How many bytes the names of the candidates have together; 2^64 - 1 stands for any more.
 #[tactic(auto, unfolding(crate::specs::Rows::candidate_bytes), using(ifs_bytes::proofs::Range::sum_more, ifs_bytes::proofs::Range::sum_end))]
-pub fn candidate_bytes(bytes: &[u8], rows: Rows, strings: Strings) -> u64
-    requires lie { RowsLie bytes.now rows }
-    requires strings_lie { StringsLie bytes.now strings }
-    ensures { result ≡ carried (candidate_bytes bytes.now rows strings) }
+fn candidate_total(lengths: &Lengths, rows: Rows) -> u64
+    requires { RowsLie lengths.now.names.bytes.now rows }
+    ensures { result
+        ≡ carried (candidate_bytes lengths.now.names.bytes.now rows lengths.now.names.strings) }
 {
     let mut total = 0u64;
     for i in 1..rows.count {
-        total = total.saturating_add(candidate_size(bytes, rows, strings, i));
+        total = total.saturating_add(candidate_size(lengths, rows, i));
     }
     total
+}
+
+/// How many bytes the names of the candidates have together; 2^64 - 1 stands for any more.
+pub fn candidate_bytes(
+    alloc: Global,
+    bytes: &[u8],
+    rows: Rows,
+    strings: Strings,
+) -> Result<u64, Memory>
+    requires lie { RowsLie bytes.now rows }
+    requires strings_lie { StringsLie bytes.now strings }
+    ensures { IfOk result (λ total. total ≡ carried (candidate_bytes bytes.now rows strings)) }
+{
+    let lengths = Lengths::new(alloc, bytes, strings)?;
+    Ok(candidate_total(&lengths, rows))
 }
 
 // A row with its name, where it has one.

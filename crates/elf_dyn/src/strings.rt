@@ -2,10 +2,20 @@
 
 ghost use Rattle.std.specs.Prelude.{◌≡◌};
 ghost use Rattle.std.specs.Option.{option_copied};
-ghost use Rattle.elf_dyn.specs.Strings.{StringsLie, name_of, unless_empty, bytes_of};
+ghost use Rattle.elf_dyn.specs.Strings.{StringsLie, string_table, name_of, unless_empty, bytes_of};
 
 use crate::places::Strings;
 use ifs_bytes::name_at;
+
+/// The bytes of a string table.
+pub fn table_of(bytes: &[u8], strings: Strings) -> &[u8]
+    requires { StringsLie bytes.now strings }
+    ensures { result.now ≡ string_table bytes.now strings }
+{
+    let from = strings.from as usize;
+    let end = from + strings.size as usize;
+    &bytes[from..end]
+}
 
 /// The name at a place of a string table; None where it doesn't start within the table, or doesn't end in it.
 #[tactic(auto, unfolding(crate::specs::Strings::name_of))]
@@ -13,9 +23,7 @@ pub fn name_of(bytes: &[u8], strings: Strings, at: u64) -> Option<&[u8]>
     requires { StringsLie bytes.now strings }
     ensures { option_copied result ≡ name_of bytes.now strings at }
 {
-    let from = strings.from as usize;
-    let end = from + strings.size as usize;
-    name_at(&bytes[from..end], at)
+    name_at(table_of(bytes, strings), at)
 }
 
 /// The name, if it isn't empty.

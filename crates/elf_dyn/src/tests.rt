@@ -1,6 +1,7 @@
 use super::*;
 use elf_file::{Dyn, put_dyn};
 use ifs_bytes::{Memory, Order, Text, Width};
+use ifs_interface::{Fact, SharedLib};
 use std::alloc::Global;
 use std::process::Abort;
 use std::test::Fail;
@@ -9,8 +10,9 @@ mod cases;
 mod fixtures;
 
 use cases::{
-    BY_ADDRESS, CUT, CUT_BARE, Cut, Damage, GNU_32_NAMES, GNU_DAMAGE, GNU_NAMES, LOADED_ROWS,
-    NAMES, Names, QUIRKS_ROWS, SECTION_DAMAGE, SEGMENT_DAMAGE, STUB_ROWS, SeenRow,
+    BY_ADDRESS, CUT, CUT_BARE, Cut, Damage, FACTS, Facts, GNU_32_NAMES, GNU_DAMAGE, GNU_NAMES,
+    LOADED_ROWS, NAMES, Names, QUIRKS_ROWS, SECTION_DAMAGE, SEGMENT_DAMAGE, STUB_ROWS, SeenRow,
+    TWICE_WANTED,
 };
 use fixtures::{FOO, GNU, PPC_STUB, QUIRKS, STUB};
 
@@ -187,6 +189,48 @@ fn names_that_are_seen(rt: HostRuntime) -> Result<(), Fail> {
 #[test]
 fn bloom_words_have_the_width_of_the_file(rt: HostRuntime) -> Result<(), Fail> {
     has_names(&rt, &bare_ppc_stub(rt.alloc())?, &GNU_32_NAMES)?;
+    Ok(())
+}
+
+// How strongly a library wants `bar` at a place.
+fn wanted_bar(library: &Library, i: usize) -> Option<bool> {
+    match library.wanted(i) {
+        Some(wanted) if wanted.name == b"bar".as_slice() => Some(wanted.strong),
+        _ => None,
+    }
+}
+
+// The stub, so changed, says this of `bar`.
+fn has_facts(
+    rt: &(impl Abort + AllocGlobal),
+    (at, bytes, fact, strong): Facts,
+) -> Result<(), ElfCause> {
+    let file = patched(rt.alloc(), &STUB, at, bytes)?;
+    let library = Library::parse(rt.alloc(), &file)?;
+    assert_eq!(rt; library.wanted_len(), 2);
+    assert_eq!(rt; library.fact(b"bar"), fact, "at {at}: {bytes:?}");
+    assert_eq!(rt; wanted_bar(&library, 0), strong[0], "at {at}: {bytes:?}");
+    assert_eq!(rt; wanted_bar(&library, 1), strong[1], "at {at}: {bytes:?}");
+    assert!(rt; library.fact(b"ba").is_none() && library.fact(b"libfoo.so").is_none());
+    Ok(())
+}
+
+#[test]
+fn facts_of_names(rt: HostRuntime) -> Result<(), Fail> {
+    for facts in FACTS {
+        has_facts(&rt, facts)?;
+    }
+    has_facts(&rt, TWICE_WANTED)?;
+    Ok(())
+}
+
+#[test]
+fn facts_of_the_library(rt: HostRuntime) -> Result<(), Fail> {
+    let library = Library::parse(rt.alloc(), &FOO)?;
+    assert_eq!(rt; library.soname(), Some(b"libfoo.so".as_slice()));
+    assert!(rt; library.needed_len() == 0 && library.needed(0).is_none());
+    assert_eq!(rt; library.fact(b"foo"), Some(Fact::Func));
+    assert_eq!(rt; library.machine().machine, Some(62));
     Ok(())
 }
 

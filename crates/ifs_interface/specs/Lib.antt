@@ -4,3 +4,5 @@ pub mod Library
 pub mod Interface
 pub mod Extracted
 pub mod Parts
+pub mod Facts
+pub mod Wanted

@@ -1,15 +1,21 @@
 //! An interface.
 
-ghost use Rattle.std.specs.Prelude.{◌≡◌, ◌<◌, [], length, slice_index_or, option_map, IfOk, IfSome, IsPermutation, IsSortedByKey};
+ghost use Rattle.std.specs.Prelude.{◌≡◌, ◌<◌, [], true, length, map, slice_get, slice_index_or, option_map, IfOk, IfSome, IsPermutation, IsSortedByKey};
 ghost use Rattle.std.specs.Ordering.{nat_cmp};
 ghost use Rattle.std.specs.Cmp.Lexicographic.{slice_cmp};
-ghost use Rattle.std.specs.Option.{option_copied};
-ghost use Rattle.ifs_interface.specs.Interface.{InterfaceRecord, IsInterface, AreParts, Makes, names_of, first_repeated};
+ghost use Rattle.std.specs.Option.{option_copied, option_flatten};
+ghost use Rattle.ifs_interface.specs.Facts.{symbol_in, defined_by, wanted_place};
+ghost use Rattle.ifs_interface.specs.Interface.{InterfaceRecord, IsInterface, AreParts, Makes, ascends, names_of, first_repeated};
+ghost use Rattle.ifs_interface.specs.Wanted.{seen};
 
+use crate::fact::{Fact, fact_of_kind};
+use crate::machine::parts;
+use crate::shared_lib::{SharedLib, Wanted};
 use crate::symbol::Symbol;
-use crate::target::Target;
+use crate::target::{MachineFact, Target};
 use ifs_bytes::{List, Memory, Text};
 use std::alloc::Global;
+use std::cmp::Ordering;
 use std::marker::Model;
 
 /// What a library offers and wants: its soname, target, needed libraries, and symbols in byte order of
@@ -121,6 +127,92 @@ impl Interface {
             copied_texts(alloc, self.needed.as_slice())?,
             copied_symbols(alloc, self.symbols.as_slice())?,
         ))
+    }
+}
+
+impl SharedLib for Interface {
+    ghost use Rattle.std.specs.Prelude.{map};
+    ghost use Rattle.ifs_interface.specs.Facts.{facts_of_interface, wanted_place};
+
+    ghost facts = { facts_of_interface };
+
+    ghost wanted_list = { λ i. map wanted_place i.symbols };
+
+    fn soname(&self) -> Option<&[u8]> {
+        match &self.soname {
+            Some(text) => Some(text.as_bytes()),
+            None => None,
+        }
+    }
+
+    fn needed_len(&self) -> usize {
+        self.needed.as_slice().len()
+    }
+
+    fn needed(&self, i: usize) -> Option<&[u8]> {
+        match self.needed.as_slice().get(i) {
+            Some(text) => Some(text.as_bytes()),
+            None => None,
+        }
+    }
+
+    fn fact(&self, name: &[u8]) -> Option<Fact> {
+        fact_named(self.symbols.as_slice(), name)
+    }
+
+    fn wanted_len(&self) -> usize {
+        self.symbols.as_slice().len()
+    }
+
+    fn wanted(&self, i: usize) -> Option<Wanted<'_>> {
+        wanted_at(self.symbols.as_slice(), i)
+    }
+
+    fn machine(&self) -> MachineFact {
+        parts(&self.target)
+    }
+}
+
+// The order of a symbol's name and another name, byte by byte.
+fn against(symbol: &Symbol, name: &[u8]) -> Ordering
+    ensures { result ≡ slice_cmp nat_cmp symbol.now.name name.now }
+{
+    symbol.name.as_bytes().cmp(name)
+}
+
+// The symbol of a name.
+fn symbol_named<'a>(symbols: &'a [Symbol], name: &[u8]) -> Option<&'a Symbol>
+    requires { ascends (names_of symbols.now) ≡ true }
+    ensures { option_copied result ≡ symbol_in symbols.now name.now }
+{
+    match symbols.binary_search_by(|symbol| against(symbol, name)) {
+        Ok(place) => Some(&symbols[place]),
+        Err(_place) => None,
+    }
+}
+
+// What the symbol of a name is, where it is defined.
+#[tactic(auto, unfolding(crate::specs::Facts::defined_by))]
+fn fact_named(symbols: &[Symbol], name: &[u8]) -> Option<Fact>
+    requires { ascends (names_of symbols.now) ≡ true }
+    ensures { result ≡ defined_by symbols.now name.now }
+{
+    match symbol_named(symbols, name) {
+        Some(symbol) if !symbol.undefined => Some(fact_of_kind(symbol.kind)),
+        _ => None,
+    }
+}
+
+// The name at place `i`, where it is wanted.
+fn wanted_at(symbols: &[Symbol], i: usize) -> Option<Wanted<'_>>
+    ensures { option_map seen result ≡ option_flatten (slice_get (map wanted_place symbols.now) i) }
+{
+    match symbols.get(i) {
+        Some(symbol) if symbol.undefined => Some(Wanted {
+            name: symbol.name.as_bytes(),
+            strong: !symbol.weak,
+        }),
+        _ => None,
     }
 }
 

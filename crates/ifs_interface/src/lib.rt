@@ -7,16 +7,20 @@
 #![tactic(auto)]
 
 mod arch;
+mod fact;
 mod interface;
 mod machine;
 mod row;
+mod shared_lib;
 mod symbol;
 mod target;
 
 pub use arch::put_arch;
+pub use fact::{Fact, fact_of_kind, fact_of_type};
 pub use interface::{Interface, copied_texts};
 pub use machine::{parts, triple_parts};
 pub use row::DynRow;
+pub use shared_lib::{SharedLib, Wanted};
 pub use symbol::{Kind, Symbol};
 pub use target::{MachineFact, Target};
 

@@ -97,3 +97,46 @@ fn triples(rt: HostRuntime) -> Result<(), Fail> {
     assert_eq!(rt; parts(&target()).machine, Some(62));
     Ok(())
 }
+
+// What a library defines a name as.
+fn fact_in<S: SharedLib>(library: &S, name: &[u8]) -> Option<Fact>
+    ensures { result ≡ (S.facts library.now).fact_of name.now }
+{
+    library.fact(name)
+}
+
+// Whether place `i` wants this name, so strongly.
+fn wants(library: &Interface, i: usize, name: &[u8], strong: bool) -> bool {
+    match library.wanted(i) {
+        Some(wanted) => wanted.name == name && wanted.strong == strong,
+        None => false,
+    }
+}
+
+#[test]
+fn facts_of_names(rt: HostRuntime) -> Result<(), Fail> {
+    let alloc = rt.alloc();
+    let mut first = symbol(alloc, b"a")?;
+    first.undefined = true;
+    let mut second = symbol(alloc, b"b")?;
+    second.kind = Kind::Unknown;
+    let mut third = symbol(alloc, b"c")?;
+    third.undefined = true;
+    third.weak = false;
+    let symbols = vec![in alloc; third, second, first]?;
+    match Interface::new(None, target(), Vec::new(alloc), symbols) {
+        Err(_name) => assert!(rt; false),
+        Ok(library) => {
+            assert_eq!(rt; fact_in(&library, b"a"), None);
+            assert_eq!(rt; fact_in(&library, b"b"), Some(Fact::NoType));
+            assert_eq!(rt; fact_in(&library, b"bb"), None);
+            assert_eq!(rt; library.wanted_len(), 3);
+            assert!(rt; wants(&library, 0, b"a", false) && wants(&library, 2, b"c", true));
+            assert!(rt; library.wanted(1).is_none() && library.wanted(3).is_none());
+            assert!(rt; library.needed_len() == 0 && library.needed(0).is_none());
+            assert!(rt; SharedLib::soname(&library).is_none());
+            assert_eq!(rt; library.machine().machine, Some(62));
+        }
+    }
+    Ok(())
+}

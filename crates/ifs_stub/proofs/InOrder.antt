@@ -10,8 +10,8 @@ use Rattle.ifs_interface.specs.Interface.{comes_before, ascends}
 use Rattle.ifs_interface.specs.Extracted.{insert_name, in_order}
 use Rattle.ifs_interface.proofs.Names.{same_name-is, same_name-itself, before_trans}
 use Rattle.ifs_interface.proofs.Repeats.{list_all-weaker}
-use Rattle.ifs_stub.proofs.NameOrder.{compared, is_less, equal_itself, equal_is, greater_back, after_differs}
-use Rattle.ifs_stub.proofs.Lists.{any_none}
+use Rattle.ifs_interface.proofs.NameOrder.{compared, is_less, equal_itself, equal_is, greater_back, after_differs}
+use Rattle.ifs_interface.proofs.Lists.{any_none}
 
 -- a name of this order against the first of names, among these
 abbrev placed : Ordering → List ℕ → List ℕ → List (List ℕ) → List (List ℕ)

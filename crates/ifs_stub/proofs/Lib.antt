@@ -1,11 +1,7 @@
-pub mod NameOrder
-pub mod Ranking
-pub mod Lists
 pub mod InOrder
 pub mod Runs
 pub mod Pointed
 pub mod Sorting
-pub mod RankedOrder
 pub mod Fits
 pub mod SymbolRows
 pub mod FileSize

@@ -12,16 +12,14 @@ use Rattle.ifs_interface.specs.Triple.{same_name}
 use Rattle.ifs_interface.specs.Interface.{comes_before}
 use Rattle.ifs_interface.specs.Extracted.{insert_name, in_order, rows_named, visible_names, symbol_named, described, is_defined}
 use Rattle.ifs_stub.specs.Rows.{run_length, symbol_of_run, symbols_by_name}
+use Rattle.elf_dyn.proofs.RankedOrder.{is_named}
 use Rattle.ifs_interface.proofs.Names.{same_name-is, same_name-itself, before_differs, before_of_rest, rises}
 use Rattle.ifs_interface.proofs.Repeats.{list_all-weaker}
-use Rattle.ifs_stub.proofs.NameOrder.{after_differs, before_later}
-use Rattle.ifs_stub.proofs.Lists.{filter_all, filter_none, map_agree}
+use Rattle.ifs_interface.proofs.NameOrder.{after_differs, before_later}
+use Rattle.ifs_interface.proofs.Lists.{filter_all, filter_none, map_agree}
 use Rattle.ifs_stub.proofs.InOrder.{all_in_order, inserted_first, inserted_again}
 
--- the row has the name; its name comes after the name
-abbrev pub is_named : List ℕ → DynRow → Bool
-is_named n row = same_name row.name n
-
+-- the row's name comes after the name
 abbrev pub is_after : List ℕ → DynRow → Bool
 is_after n row = comes_before n row.name
 

@@ -1,64 +1,50 @@
 -- A stable sort of references to rows, and the pass over the runs in them.
-use Rattle.std.proofs.Common.{◌≡◌, ℕ, ◌+◌, ◌<◌, ◌≤◌, Bool, true, List, [], ◌∷◌, ◌++◌, length, map, filter, take, drop, Option, Some, None, refl, sym, ap, ◌∙◌, append_assoc, arith}
+use Rattle.std.proofs.Common.{◌≡◌, ℕ, ◌+◌, ◌<◌, ◌≤◌, Bool, true, List, [], ◌∷◌, ◌++◌, length, map, take, drop, Option, Some, None, refl, sym, ap, ◌∙◌, append_assoc, arith}
 use Rattle.std.specs.List.{list_all, find}
-use Rattle.std.specs.List.Sorted.{IsSortedBy, IsStableBy, ties}
-use Rattle.std.specs.Cmp.{IsStrictWeakOrder}
-use Rattle.std.specs.Cmp.Lexicographic.{nat_list_cmp_total}
-use Rattle.std.proofs.lemmas.List.{length-map, drop-map, take-map, drop_all, append-nil}
-use Rattle.std.proofs.lemmas.List.Elements.{filter_agree}
+use Rattle.std.specs.List.Sorted.{IsSortedBy}
+use Rattle.std.proofs.lemmas.List.{get_or-map, length-map, drop-map, take-map, drop_all, append-nil}
 use Rattle.std.proofs.lemmas.List.Folds.{list_all-map}
-use Rattle.std.proofs.lemmas.List.Sorted.{ranks_by}
 use denote.Ref.{Bor}
 use Rattle.ifs_interface.specs.declared.row.DynRow.{DynRow}
 use Rattle.ifs_interface.specs.declared.symbol.Symbol.{Symbol}
 use Rattle.ifs_interface.specs.Triple.{same_name}
 use Rattle.ifs_interface.specs.Interface.{comes_before, ascends, is_proper_name, names_of}
 use Rattle.ifs_interface.specs.Extracted.{in_order, rows_named, symbol_named, visible_names, described, is_defined}
-use Rattle.ifs_stub.specs.Rows.{pointed, run_length, symbol_of_run, symbols_by_name, IsSortedByName}
+use Rattle.ifs_stub.specs.Rows.{pointed, run_length, symbol_of_run, symbols_by_name}
+use Rattle.elf_dyn.specs.ByName.{IsSortedByName}
+use Rattle.elf_dyn.specs.ByName as order
+use Rattle.elf_dyn.proofs.RankedOrder.{is_named}
 use Rattle.ifs_interface.proofs.Names.{rises, rises-from_sorted}
-use Rattle.ifs_stub.proofs.NameOrder.{same_ties}
-use Rattle.ifs_stub.proofs.Lists.{filter_map_of, any_map_of, any_by_filter, has_some, map_map, map_itself}
+use Rattle.ifs_interface.proofs.Lists.{any_map_of, any_by_filter, has_some, map_map, map_itself}
 use Rattle.ifs_stub.proofs.InOrder.{has, has_in_order, in_order_ascends, ascending_unique, all_in_order}
-use Rattle.ifs_stub.proofs.Runs.{is_named, names, symbol_by, run_length_in, symbols_from}
+use Rattle.ifs_stub.proofs.Runs.{names, symbol_by, run_length_in, symbols_from}
 
--- ---- what the sort leaves
+-- ---- references to rows in order
 
 abbrev pub before : Bor DynRow → Bor DynRow → Bool
 before one other = comes_before one.now.name other.now.name
-
-pub before_ranks : IsStrictWeakOrder before
-before_ranks = ranks_by nat_list_cmp_total (λ row. row.now.name)
 
 -- the names of sorted rows never fall
 rising : (rows : List (Bor DynRow)) → IsSortedBy before rows → rises (names (pointed rows)) ≡ true
 rising rows up =
     ap rises (map_map (λ row. row.name) (λ row. row.now) rows) ∙ rises-from_sorted (λ row. row.now.name) rows up
 
--- a reference to some row of a name
-a_row : List ℕ → Bor DynRow
-a_row name = record { ref_ptr = (0, 0); now = record { name = name; binding = 1; kind = 0; shndx = 0; value = 0; size = 0 } }
-
-rows_named_by_ties : (name : List ℕ) (rows : List (Bor DynRow)) → rows_named name (pointed rows) ≡ pointed (filter (ties before (a_row name)) rows)
-unfolding a_row
-rows_named_by_ties name rows =
-    filter_map_of (is_named name) (λ row. row.now) rows
-    ∙ ap pointed (filter_agree (λ row. is_named name row.now) (ties before (a_row name)) (λ row. same_ties row.now.name name) rows)
-
-pub sorted_by_name : (rows : List DynRow) (old new : List (Bor DynRow)) → pointed old ≡ rows → IsSortedBy before new → IsStableBy before old new → IsSortedByName rows new
-sorted_by_name rows old new same up stable = record {
-  rising = up;
-  same_rows = λ name. rows_named_by_ties name new ∙ ap pointed (stable (a_row name)) ∙ sym (rows_named_by_ties name old) ∙ ap (rows_named name) same;
-}
+-- references are in order where their rows are
+pub pointed_in_order : (references : List (Bor DynRow)) → order.AreInNameOrder (pointed references) → IsSortedBy before references
+pointed_in_order references up k d low lt =
+    let long = length-map references (λ r. r.now) in
+    let second = get_or-map (λ (r : Bor DynRow). r.now) references (k + 1) d d.now (omega arith) in
+    let first = get_or-map (λ (r : Bor DynRow). r.now) references k d d.now (omega arith) in
+    (λ i. comes_before (sym second i).name (sym first i).name) ∙ up k d.now low (omega arith)
 
 -- ---- the symbols of sorted rows are those of the rows
 
 has_named : (q : List ℕ) (rows : List DynRow) → has q (names rows) ≡ has_some (rows_named q rows)
 has_named q rows = any_map_of (λ m. same_name m q) (λ row. row.name) rows ∙ any_by_filter (is_named q) rows
 
-pub symbols_of_sorted : (rows : List DynRow) (sorted : List (Bor DynRow)) → IsSortedByName rows sorted → symbols_by_name (pointed sorted) ≡ symbols_by_name rows
+pub symbols_of_sorted : (rows sorted : List DynRow) → IsSortedByName rows sorted → symbols_by_name sorted ≡ symbols_by_name rows
 unfolding visible_names symbol_named
-symbols_of_sorted rows references is =
-    let sorted = pointed references in
+symbols_of_sorted rows sorted is =
     let same_names : in_order (names sorted) ≡ in_order (names rows) = ascending_unique (in_order (names sorted)) (in_order (names rows)) (in_order_ascends (names sorted)) (in_order_ascends (names rows)) (λ q. has_in_order q (names sorted) ∙ has_named q sorted ∙ ap has_some (is.same_rows q) ∙ sym (has_named q rows) ∙ sym (has_in_order q (names rows))) in
     λ i. map (λ name. symbol_by name (is.same_rows name i)) (same_names i)
 

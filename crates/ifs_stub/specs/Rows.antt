@@ -1,5 +1,5 @@
 -- Rows of a library in byte order of their names.
-use Rattle.std.specs.Prelude.{◌≡◌, ℕ, List, [], ◌∷◌, map}
+use Rattle.std.specs.Prelude.{ℕ, List, [], ◌∷◌, map}
 use Rattle.std.specs.List.{find, prefix_len}
 use Rattle.std.specs.List.Sorted.{IsSortedByKey}
 use Rattle.std.specs.Ordering.{nat_cmp}
@@ -8,7 +8,7 @@ use denote.Ref.{Bor}
 use Rattle.ifs_interface.specs.declared.row.DynRow.{DynRow}
 use Rattle.ifs_interface.specs.declared.symbol.Symbol.{Symbol}
 use Rattle.ifs_interface.specs.Triple.{same_name}
-use Rattle.ifs_interface.specs.Extracted.{rows_named, symbol_named, visible_names, is_defined, described, wanted_symbol}
+use Rattle.ifs_interface.specs.Extracted.{symbol_named, visible_names, is_defined, described, wanted_symbol}
 
 -- the rows that references point to
 abbrev pub pointed : List (Bor DynRow) → List DynRow
@@ -17,11 +17,6 @@ pointed references = map (λ reference. reference.now) references
 -- the rows stand in byte order of their names
 abbrev pub AreInNameOrder : List (Bor DynRow) → Type 0
 AreInNameOrder references = IsSortedByKey (λ reference. reference.now.name) (slice_cmp nat_cmp) references
-
--- sorted has the rows in byte order of their names, those of one name in the order that they had
-pub record IsSortedByName (rows : List DynRow) (sorted : List (Bor DynRow)) : Type 0 where
-  pub rising : AreInNameOrder sorted
-  pub same_rows : (name : List ℕ) → rows_named name (pointed sorted) ≡ rows_named name rows
 
 -- one symbol for each name of the rows
 abbrev pub symbols_by_name : List DynRow → List Symbol

@@ -1,24 +1,46 @@
 //! One symbol for each name among rows.
 
-ghost use Rattle.std.specs.Prelude.{◌≡◌, ◌<◌, true, IfOk, length, map};
+ghost use Rattle.std.specs.Prelude.{◌≡◌, ◌<◌, ◌++◌, true, IfOk, OnOk, length, map, slice_get};
 ghost use Rattle.std.specs.List.{list_all};
+ghost use Rattle.std.specs.Option.{option_to_list};
 ghost use Rattle.ifs_interface.specs.Extracted.{symbol_named, visible_names};
 ghost use Rattle.ifs_interface.specs.Interface.{ascends, is_proper_name, names_of};
-ghost use Rattle.ifs_stub.specs.Rows.{pointed, run_length, symbols_by_name, AreInNameOrder, IsSortedByName};
+ghost use Rattle.elf_dyn.specs.ByName.{rows_at, IsSortedByName};
+ghost use Rattle.ifs_stub.specs.Rows.{pointed, run_length, symbols_by_name, AreInNameOrder};
 
 use crate::described::described;
-use crate::ranked::{compare, usual_front, with_ranks};
 use ifs_bytes::Memory;
 use ifs_interface::{DynRow, Symbol};
 use std::alloc::Global;
 
-// The rows in byte order of their names, those of one name in the order that they had.
-fn sorted_by_name(alloc: Global, rows: &[DynRow]) -> Result<Vec<&DynRow>, Memory>
-    ensures { IfOk result (λ sorted. IsSortedByName rows.now sorted.items) }
+// Appends the row at a place, if there is one.
+fn push_row_at<'a>(
+    sorted: &mut Vec<&'a DynRow>,
+    rows: &'a [DynRow],
+    place: usize,
+) -> Result<(), Memory>
+    ensures { OnOk result (pointed sorted.new.items
+        ≡ pointed sorted.old.items ++ option_to_list (slice_get rows.now place)) }
 {
-    let mut sorted = with_ranks(alloc, usual_front(rows), rows)?;
-    sorted.sort_by(|a, b| compare(a, b))?;
-    Ok(sorted.iter().map(|ranked| ranked.row).collect(alloc)?)
+    match rows.get(place) {
+        Some(row) => Ok(sorted.push(row)?),
+        None => Ok(()),
+    }
+}
+
+// The rows at places.
+fn rows_at<'a>(
+    alloc: Global,
+    rows: &'a [DynRow],
+    places: &[usize],
+) -> Result<Vec<&'a DynRow>, Memory>
+    ensures { IfOk result (λ sorted. pointed sorted.items ≡ rows_at rows.now places.now) }
+{
+    let mut sorted = Vec::with_capacity(alloc, places.len())?;
+    for place in places {
+        push_row_at(&mut sorted, rows, *place)?;
+    }
+    Ok(sorted)
 }
 
 // How many rows at the front have the name of the first.
@@ -47,13 +69,15 @@ fn collapsed(alloc: Global, rows: &[&DynRow]) -> Result<Vec<Symbol>, Memory>
 }
 
 /// The symbols of a library's rows: one for each name, in byte order. A name with a row that defines it is
-/// described by the first such row; any other by its first row, and is weak where all its rows are.
-pub fn symbols_of(alloc: Global, rows: &[DynRow]) -> Result<Vec<Symbol>, Memory>
+/// described by the first such row; any other by its first row, and is weak where all its rows are. The places
+/// are those of the rows in byte order of their names.
+pub fn symbols_of(alloc: Global, rows: &[DynRow], places: &[usize]) -> Result<Vec<Symbol>, Memory>
+    requires { IsSortedByName rows.now (rows_at rows.now places.now) }
     ensures symbols { IfOk result (λ symbols. symbols.items ≡ map (symbol_named rows.now) (visible_names rows.now)) }
     ensures ascending { IfOk result (λ symbols. ascends (names_of symbols.items) ≡ true) }
     ensures proper { IfOk result (λ symbols. list_all (λ row. is_proper_name row.name) rows.now ≡ true
         → list_all is_proper_name (names_of symbols.items) ≡ true) }
 {
-    let sorted = sorted_by_name(alloc, rows)?;
+    let sorted = rows_at(alloc, rows, places)?;
     collapsed(alloc, sorted.as_slice())
 }

@@ -26,6 +26,6 @@ pub fn extract(alloc: Global, library: &Library) -> Result<Interface, Memory>
         width: Some(library.width()),
     };
     let needed = copied_texts(alloc, library.needed_texts())?;
-    let symbols = symbols_of(alloc, library.rows())?;
+    let symbols = symbols_of(alloc, library.rows(), library.by_name())?;
     Ok(Interface::from_sorted(soname, target, needed, symbols))
 }

@@ -19,7 +19,6 @@ mod interface;
 mod laws;
 mod layout;
 mod limits;
-mod ranked;
 mod sections;
 mod strings;
 mod stub;

@@ -6,6 +6,7 @@ mod samples;
 
 use self::samples::{NARROW, WIDE};
 use super::*;
+use elf_dyn::places_by_name;
 use ifs_bytes::{Memory, Order, Text, Width};
 use ifs_interface::{DynRow, Interface, Kind, Symbol, Target};
 use std::alloc::Global;
@@ -63,7 +64,7 @@ fn a_definition_describes_a_name(rt: HostRuntime) -> Result<(), Fail> {
         row(alloc, b"a", 0, GLOBAL, 1, 0)?,
         row(alloc, b"B", 0, WEAK, 10, 0)?,
     ];
-    let symbols = symbols_of(alloc, &rows)?;
+    let symbols = symbols_of(alloc, &rows, &places_by_name(alloc, &rows)?)?;
     assert_eq!(rt; symbols.len(), 3);
     assert!(rt; is_sized(&symbols, 0, b"B", Kind::Unknown, None));
     assert!(rt; is_bound(&symbols, 0, true, true));
@@ -83,7 +84,7 @@ fn sizes_go_by_kind(rt: HostRuntime) -> Result<(), Fail> {
         row(alloc, b"3", 1, GLOBAL, 0, 0)?,
         row(alloc, b"4", 1, GLOBAL, 13, 5)?,
     ];
-    let symbols = symbols_of(alloc, &rows)?;
+    let symbols = symbols_of(alloc, &rows, &places_by_name(alloc, &rows)?)?;
     assert!(rt; is_sized(&symbols, 0, b"1", Kind::Func, None));
     assert!(rt; is_sized(&symbols, 1, b"2", Kind::Object, Some(0)));
     assert!(rt; is_sized(&symbols, 2, b"3", Kind::NoType, None));

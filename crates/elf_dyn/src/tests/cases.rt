@@ -1,6 +1,7 @@
 //! Changes of the fixtures, each a few bytes from an offset on, with what the gABI and the limits make of them.
 
 use crate::{ElfCause, NamePlace};
+use ifs_interface::Fact;
 
 /// The name, type, value and size of a visible row, which is GLOBAL and of section 1.
 pub type SeenRow = (&'static [u8], u8, u64, u64);
@@ -25,6 +26,10 @@ pub type Names = (usize, &'static [u8], &'static [u8]);
 
 /// An offset, the bytes put from there on, and why the file is refused then.
 pub type Damage = (usize, &'static [u8], ElfCause);
+
+/// An offset, the bytes put from there on, what `bar` is defined as then, and how strongly each of the two rows
+/// wants it.
+pub type Facts = (usize, &'static [u8], Option<Fact>, [Option<bool>; 2]);
 
 /// From how many bytes on and below how many the first bytes of a file are refused, and why; None where they
 /// are read.
@@ -89,6 +94,39 @@ pub static NAMES: [Names; 22] = [
     (716, &[0], b"libfoo.so: bar foo"),
     (524, &[0], b"libfoo.so: bar foo"),
 ];
+
+/// The stub, changed, and what it says of `bar`. Row 1 is at 200, row 2 at 224: st_name, st_info, st_other,
+/// st_shndx, st_value and st_size.
+pub static FACTS: [Facts; 8] = [
+    (0, &[], Some(Fact::Object), [None, None]),
+    // Another type, thread-local data, no type.
+    (204, &[0x1a], Some(Fact::NoType), [None, None]),
+    (204, &[0x16], Some(Fact::Tls), [None, None]),
+    (204, &[0x10], Some(Fact::NoType), [None, None]),
+    // Undefined, and WEAK too.
+    (206, &[0], None, [Some(true), None]),
+    (204, &[0x21, 0, 0], None, [Some(false), None]),
+    // Both rows have the name: the first one that is defined counts.
+    (224, &[1], Some(Fact::Object), [None, None]),
+    (
+        204,
+        &[
+            0x21, 0, 0, 0, 0, 0, 0, 0, 0, 0, 0, 0, 42, 0, 0, 0, 0, 0, 0, 0, 1,
+        ],
+        Some(Fact::Func),
+        [None, None],
+    ),
+];
+
+/// Both rows are undefined `bar`, the first WEAK and the second GLOBAL.
+pub static TWICE_WANTED: Facts = (
+    204,
+    &[
+        0x20, 0, 0, 0, 0, 0, 0, 0, 0, 0, 0, 0, 0, 0, 0, 0, 0, 0, 0, 0, 1, 0, 0, 0, 0x10, 0, 0,
+    ],
+    None,
+    [Some(false), Some(true)],
+);
 
 /// The stub without section headers, changed and read.
 pub static BY_ADDRESS: [Names; 5] = [

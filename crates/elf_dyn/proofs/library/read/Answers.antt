@@ -1,4 +1,5 @@
 use Rattle.elf_dyn.specs.Library.{library_at}
+use Rattle.elf_dyn.proofs.Index.{indexed}
 use Rattle.elf_dyn.proofs.Proper.{proper_library}
 use Rattle.elf_dyn.proofs.library.read.Goals as goal
 
@@ -6,8 +7,14 @@ pub invariant_of-result : goal.invariant_of-result
 unfolding library_at
 invariant_of-result c =
     let h = proper_library c.args.bytes.now c.args.header.now c.args.places.now c.args.count in
-    record {
-      soname_is_proper = rw (c.in_ok-soname_text.ensures, c.soname_of-soname.ensures) h.soname_is_proper;
-      needed_are_proper = rw (c.from_vec.ensures, c.in_ok-needed_of.ensures) h.needed_are_proper;
-      rows_are_proper = rw (c.from_vec-2.ensures, c.in_ok-visible_rows.ensures) h.rows_are_proper;
-    }
+    let sorted = rw c.deref.ensures.value at c.in_ok-by_name.ensures in
+    let those = rw (c.deref-2.ensures.value, c.deref-3.ensures.value) at c.in_ok-defined.ensures in
+    let index = indexed c.in_ok-rows.rows.items c.in_ok-by_name.by_name.items c.in_ok-defined.defined.items sorted those in (
+      record {
+        soname_is_proper = rw (c.in_ok-soname_text.ensures, c.soname_of-soname.ensures) h.soname_is_proper;
+        needed_are_proper = rw (c.from_vec.ensures, c.in_ok-needed_of.ensures) h.needed_are_proper;
+        rows_are_proper = rw (c.from_vec-2.ensures, c.in_ok-rows.ensures) h.rows_are_proper;
+      },
+      rw (c.from_vec-2.ensures, c.from_vec-3.ensures) sorted,
+      rw (c.from_vec-2.ensures, c.from_vec-4.ensures) index,
+    )

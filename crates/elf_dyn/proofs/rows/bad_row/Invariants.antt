@@ -7,5 +7,5 @@ use Rattle.elf_dyn.proofs.rows.bad_row.Given as goal
 
 abbrev pub invariant-loop-i : goal.invariant-loop-i
 invariant-loop-i l =
-    let test = λ (i : ℕ). is_candidate (row l.bytes l.rows i) && is_none (row_name l.bytes l.rows l.strings i) in
+    let test = λ (i : ℕ). is_candidate (row l.names.bytes.now l.rows i) && is_none (row_name l.names.bytes.now l.rows l.names.strings i) in
     find test (places l.i l.rows.count) ≡ find test (places 1 l.rows.count)
