@@ -5,3 +5,4 @@ pub mod PlainBack
 pub mod SingleBack
 pub mod DoubleBack
 pub mod OneToken
+pub mod InTexts

@@ -193,14 +193,14 @@ printed_is_one_token text rest fresh before at column e =
     (p.0, record { pieces = p.1.pieces; token = p.1.token; good = p.1.good; level = p.1.level })
 
 -- no control characters
-abbrev loud : List ℕ → Bool
+abbrev pub loud : List ℕ → Bool
 loud z = list_any (λ b. nat_lt b 32) z
 
 either : (a b : Bool) → a ≡ false → b ≡ false → a || b ≡ false
 either true b h g = h
 either false b h g = g
 
-loud_both : (y z : List ℕ) → loud y ≡ false → loud z ≡ false → loud (y ++ z) ≡ false
+pub loud_both : (y z : List ℕ) → loud y ≡ false → loud z ≡ false → loud (y ++ z) ≡ false
 loud_both [] z h g = g
 loud_both (b ∷ y) z h g = let p = neither (nat_lt b 32) (loud y) h in either (nat_lt b 32) (loud (y ++ z)) p.0 (loud_both y z p.1 g)
 

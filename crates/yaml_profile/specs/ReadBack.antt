@@ -1,5 +1,5 @@
 -- What it means that a printed scalar is read back.
-use Rattle.std.specs.Prelude.{◌≡◌, ℕ, zero, ◌+◌, Bool, false, nat_lt, List, ◌∷◌, ◌++◌, length, Some, None}
+use Rattle.std.specs.Prelude.{◌≡◌, ℕ, zero, ◌+◌, Bool, false, nat_lt, List, [], ◌∷◌, ◌++◌, length, Some, None, Result, Ok, codes}
 use Rattle.std.specs.List.{list_any}
 use Rattle.yaml_tokens.specs.Scalars.{plain_size}
 use Rattle.yaml_tokens.specs.Pieces.{PieceRecord, in_flow, cut, after}
@@ -8,6 +8,13 @@ use Rattle.yaml_tokens.specs.Tokens.{token_of}
 use Rattle.yaml_tokens.specs.declared.piece.Before.{Before}
 use Rattle.yaml_tokens.specs.declared.piece.Kind.{Kind}
 use Rattle.yaml_tokens.specs.declared.token.Token.TheVariants as token
+use Rattle.yaml_nodes.specs.declared.node.Node.{Node}
+use Rattle.yaml_nodes.specs.declared.node.Node.TheVariants as node
+use Rattle.yaml_nodes.specs.declared.document.Document.{Document}
+use Rattle.yaml_nodes.specs.declared.cause.YamlCause.{YamlCause}
+use Rattle.yaml_nodes.specs.Nodes.{entry}
+use Rattle.yaml_nodes.specs.Documents.{document}
+use Rattle.yaml_profile.specs.Yaml.{read_of}
 use Rattle.yaml_profile.specs.Printed.{printed_scalar}
 
 abbrev pub printed_piece : List ℕ → Kind → ℕ → ℕ → PieceRecord
@@ -29,3 +36,19 @@ PrintedIsOneToken = (text rest : List ℕ) (fresh : Bool) (before : Before) (at 
 -- and it stands on one line, without control characters
 abbrev pub PrintedIsOnOneLine : Type 0
 PrintedIsOnOneLine = (text : List ℕ) → list_any (λ b. nat_lt b 32) (printed_scalar text) ≡ false
+
+-- a document of one line
+abbrev pub in_document : List ℕ → List ℕ
+in_document line = codes "---" ++ 10 ∷ (line ++ 10 ∷ [])
+
+abbrev pub one_root : Node → Result (List Document) YamlCause
+one_root root = Ok (document None root ∷ [])
+
+-- where printers put it: as a value behind its key, in a map in flow, and as an item
+pub record StandsInTexts (scalar : List ℕ) : Type 0 where
+  pub value : read_of (in_document (codes "k: " ++ printed_scalar scalar)) ≡ one_root (node.Map (entry (codes "k") (node.Scalar scalar) ∷ []))
+  pub in_flow : read_of (in_document (codes "{ k: " ++ printed_scalar scalar ++ codes " }")) ≡ one_root (node.Map (entry (codes "k") (node.Scalar scalar) ∷ []))
+  pub item : read_of (in_document (codes "- " ++ printed_scalar scalar)) ≡ one_root (node.Seq (node.Scalar scalar ∷ []))
+
+abbrev pub PrintedStandsInTexts : Type 0
+PrintedStandsInTexts = (scalar : List ℕ) → StandsInTexts scalar

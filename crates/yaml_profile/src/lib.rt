@@ -1,6 +1,9 @@
 //! The profile of YAML that text stubs are written in. `read` gives the documents of a text. A scalar is printed
 //! plain where readers of YAML 1.2 take it for a text, and else in quotes, so that no name is read back as a truth
 //! value, a number or a mark.
+//!
+//! `read` looks for the faults of tokens first, which takes no memory, then cuts the text into tokens, and these into
+//! nodes. Beside the scalars that it answers it keeps the tokens, until it returns.
 #![tactic(auto)]
 
 mod laws;
