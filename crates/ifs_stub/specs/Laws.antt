@@ -9,6 +9,7 @@ use Rattle.elf_file.specs.declared.cause.ElfCause.{ElfCause}
 use Rattle.elf_dyn.specs.Library.{library_of}
 use Rattle.ifs_interface.specs.Interface.{InterfaceRecord, IsInterface}
 use Rattle.ifs_interface.specs.Extracted.{interface_of}
+use Rattle.ifs_interface.specs.Facts.{facts_of_library, facts_of_interface}
 use Rattle.ifs_interface.specs.Library.{LibraryRecord}
 use Rattle.ifs_interface.specs.Parts.{parts_of}
 use Rattle.ifs_interface.specs.declared.symbol.Symbol.{Symbol}
@@ -49,6 +50,11 @@ StubsAreRead =
 abbrev pub StubsKeepInterfaces : Type 0
 StubsKeepInterfaces =
     (i : InterfaceRecord) (form : Form) → IsInterface i → form_of (parts_of i.target) ≡ Ok form → interface_of (stub_library i form) ≡ forget i
+
+-- and its facts are those of the interface
+abbrev pub StubsKeepFacts : Type 0
+StubsKeepFacts =
+    (i : InterfaceRecord) (form : Form) → IsInterface i → form_of (parts_of i.target) ≡ Ok form → facts_of_library (stub_library i form) ≡ facts_of_interface i
 
 -- the machine is a number of 16 bits, and each size one of 64
 pub record HasNumbers (i : InterfaceRecord) : Type 0 where

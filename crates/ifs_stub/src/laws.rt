@@ -1,6 +1,6 @@
 //! Laws on stub files.
 
-ghost use Rattle.ifs_stub.specs.Laws.{StubsEndAtTheirPlace, StubsAreSmall, StubsAreRead, StubsKeepInterfaces, StubsAreReadBack, StubsAreMade, ExtractedHaveStubs, ExtractedAreMade};
+ghost use Rattle.ifs_stub.specs.Laws.{StubsEndAtTheirPlace, StubsAreSmall, StubsAreRead, StubsKeepInterfaces, StubsKeepFacts, StubsAreReadBack, StubsAreMade, ExtractedHaveStubs, ExtractedAreMade};
 
 /// A stub file is as long as its parts, each at its place, and below 75,497,472 bytes.
 pub fn stubs_have_their_size()
@@ -15,6 +15,7 @@ pub fn stubs_have_their_size()
 pub fn stubs_are_read_back()
     ensures read { StubsAreRead }
     ensures kept { StubsKeepInterfaces }
+    ensures facts { StubsKeepFacts }
     ensures read_back { StubsAreReadBack }
 {}
 
