@@ -99,9 +99,10 @@ impl Interface {
         self.needed.as_slice()
     }
 
-    /// The symbols, in byte order of their names.
+    /// The symbols, in byte order of their names, each name once.
     pub fn symbols(&self) -> &[Symbol]
-        ensures { result.now ≡ self.now.symbols }
+        ensures value { result.now ≡ self.now.symbols }
+        ensures interface { IsInterface self.now }
     {
         self.symbols.as_slice()
     }

@@ -1,10 +1,12 @@
 //! What a stub may hold.
 
-ghost use Rattle.std.specs.Prelude.{◌≡◌, ◌*◌, ◌≤◌, IfNone, OnOk};
-ghost use Rattle.std.specs.List.{find};
+ghost use Rattle.std.specs.Prelude.{◌≡◌, ◌<◌, ◌*◌, ◌^◌, ◌≤◌, true, IfNone, IfOk, OnOk};
+ghost use Rattle.std.specs.Bool.{OnFalse};
+ghost use Rattle.std.specs.List.{find, list_all};
 ghost use Rattle.std.specs.Option.{option_copied};
 ghost use Rattle.ifs_bytes.specs.Outcome.{UnlessMemory};
 ghost use Rattle.ifs_bytes.specs.Carried.{carried};
+ghost use Rattle.ifs_stub.specs.Laws.{size_fits};
 ghost use Rattle.ifs_stub.specs.StubFile.{symbol_name_bytes, needed_name_bytes, soname_bytes};
 ghost use Rattle.ifs_stub.specs.Stub.{form_of, is_too_wide, sizes_checked, name_count, name_bytes, limits_checked, HasNoWideSize, IsWithin};
 
@@ -18,7 +20,8 @@ use std::alloc::Global;
 /// The machine, order and width, where all are known; else the first that isn't.
 #[tactic(auto, unfolding(crate::specs::Stub::form_of))]
 pub fn form_of(fact: MachineFact) -> Result<Form, StubCause>
-    ensures { result ≡ form_of fact }
+    ensures exact { result ≡ form_of fact }
+    ensures machine { IfOk result (λ form. form.machine < 2 ^ 16) }
 {
     let Some(machine) = fact.machine else {
         return Err(StubCause::TargetIncomplete(TargetField::Arch));
@@ -38,10 +41,12 @@ pub fn form_of(fact: MachineFact) -> Result<Form, StubCause>
 
 // Whether the symbol's size has no place in a row.
 fn is_too_wide(symbol: &Symbol, width: Width) -> bool
-    ensures { result ≡ is_too_wide width symbol.now }
+    ensures exact { result ≡ is_too_wide width symbol.now }
+    ensures fits { OnFalse result (size_fits width symbol.now ≡ true) }
 {
+    let size = symbol.size.unwrap_or(0);
     match width {
-        Width::W32 => symbol.size.unwrap_or(0) >= 1 << 32,
+        Width::W32 => size >= 1 << 32,
         Width::W64 => false,
     }
 }
@@ -50,6 +55,7 @@ fn is_too_wide(symbol: &Symbol, width: Width) -> bool
 fn too_wide(symbols: &[Symbol], width: Width) -> Option<&Symbol>
     ensures first { option_copied result ≡ find (is_too_wide width) symbols.now }
     ensures none { IfNone result (HasNoWideSize width symbols.now) }
+    ensures fit { IfNone result (list_all (size_fits width) symbols.now ≡ true) }
 {
     for symbol in symbols {
         if is_too_wide(symbol, width) {
@@ -63,7 +69,8 @@ fn too_wide(symbols: &[Symbol], width: Width) -> Option<&Symbol>
 #[tactic(auto, unfolding(crate::specs::Stub::sizes_checked))]
 pub fn check_sizes(alloc: Global, symbols: &[Symbol], width: Width) -> Result<(), StubCause>
     ensures exact { UnlessMemory StubCause.Memory result (sizes_checked width symbols.now) }
-    ensures fit { OnOk result (HasNoWideSize width symbols.now) }
+    ensures none_wide { OnOk result (HasNoWideSize width symbols.now) }
+    ensures fit { OnOk result (list_all (size_fits width) symbols.now ≡ true) }
 {
     match too_wide(symbols, width) {
         Some(symbol) => Err(StubCause::SizeTooWide(symbol.name.copy(alloc)?)),

@@ -1,6 +1,8 @@
 //! The stub file of an interface.
 
-ghost use Rattle.std.specs.Prelude.{◌≡◌, ◌+◌, ◌<◌, ◌≤◌, ◌++◌, length, IfOk, OnOk};
+ghost use Rattle.std.specs.Prelude.{◌≡◌, ◌+◌, ◌<◌, ◌≤◌, ◌++◌, length, Ok, IfOk, OnOk};
+ghost use Rattle.ifs_stub.specs.Forget.{forget};
+ghost use Rattle.ifs_stub.specs.Laws.{interface_in};
 ghost use Rattle.ifs_bytes.specs.Outcome.{UnlessMemory};
 ghost use Rattle.ifs_stub.specs.StubFile.{needed_name_bytes, file_by, stub_file};
 ghost use Rattle.ifs_stub.specs.Stub.{HasNoWideSize, IsWithin, stub_of, bytes_of};
@@ -60,11 +62,13 @@ fn file_of(alloc: Global, interface: &Interface, form: Form) -> Result<Vec<u8>, 
 /// first of machine, width and order that the target doesn't give; `SizeTooWide` of the first symbol whose
 /// size is 2^32 or more at a width of 32 bits; `TooManySymbols` above 1,000,000 symbols and needed libraries;
 /// and `NamesTooLarge` where the names have more than 33,554,432 bytes together. The file has less than
-/// 75,497,472 bytes.
+/// 75,497,472 bytes. Read back it has this interface, but for what it has no place for: an unknown type is no type,
+/// an absent size is 0, and warnings and the name of the triple are gone.
 #[tactic(auto, unfolding(crate::specs::Stub::stub_of))]
 pub fn emit(alloc: Global, interface: &Interface) -> Result<Vec<u8>, StubCause>
     ensures exact { UnlessMemory StubCause.Memory (bytes_of result) (stub_of interface.now) }
     ensures small { IfOk result (λ out. length out.items < 75497472) }
+    ensures read_back { IfOk result (λ out. interface_in out.items ≡ Ok (forget interface.now)) }
 {
     let form = form_of(parts(interface.target()))?;
     check_sizes(alloc, interface.symbols(), form.width)?;

@@ -85,6 +85,12 @@ machine_is_small i form numbers formed =
     let same : fact.machine ≡ Some form.machine = ap (λ (t : Target). t.machine) (target_by fact.machine fact.order fact.width form formed) in
     subst (λ o. unwrap_or o 0 < 2 ^ 16) same numbers.machine
 
+-- the bytes of a stub, however they were made
+pub written_is_read_back : (i : InterfaceRecord) (form : Form) (bytes : List ℕ) → HasStub i form → form_of (parts_of i.target) ≡ Ok form → bytes ≡ stub_file form.order form.width form.machine i → interface_in bytes ≡ Ok (forget i)
+written_is_read_back i form bytes has formed is =
+    ap interface_in is ∙ ap (λ r. r >>= λ library. Ok (interface_of library)) (stubs_are_read i form has)
+    ∙ ap (λ j. Ok j) (stubs_keep_interfaces i form has.interface formed)
+
 pub stubs_are_read_back : (i : InterfaceRecord) (stub : List ℕ) → IsInterface i → HasNumbers i → stub_of i ≡ Ok stub → interface_in stub ≡ Ok (forget i)
 stubs_are_read_back i stub is numbers stubbed =
     let result = is_made i stub stubbed in
@@ -96,8 +102,7 @@ stubs_are_read_back i stub is numbers stubbed =
       sizes_fit = sizes_have_places form.width i.symbols numbers.sizes made.none_wide;
       within = made.within;
     } in
-    ap interface_in (sym made.stub_is) ∙ ap (λ r. r >>= λ library. Ok (interface_of library)) (stubs_are_read i form has)
-    ∙ ap (λ j. Ok j) (stubs_keep_interfaces i form is made.formed)
+    written_is_read_back i form stub has made.formed (sym made.stub_is)
 
 -- ---- an interface that has a stub
 

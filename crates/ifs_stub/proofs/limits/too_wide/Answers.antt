@@ -8,4 +8,4 @@ use Rattle.ifs_stub.proofs.limits.too_wide.Goals as goal
 pub returns-clause-none : goal.returns-clause-none
 returns-clause-none c =
     let p = is_too_wide c.args.width in
-    none_found p c.args.symbols.now (sym c.loop-symbol.invariant ∙ at_drop_all (find p) c.args.symbols.now c.loop-symbol.symbol-index c.loop-symbol-test.false)
+    none_found p c.args.symbols.now (sym c.loop-symbol.invariant.left ∙ at_drop_all (find p) c.args.symbols.now c.loop-symbol.symbol-index c.loop-symbol-test.false)
