@@ -14,3 +14,4 @@ pub mod Steps
 pub mod Weights
 pub mod ReadNumbers
 pub mod Extracted
+pub mod Kept

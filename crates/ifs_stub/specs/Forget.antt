@@ -1,6 +1,6 @@
 -- What is left of an interface in its stub: a stub has no place for a type that isn't known, for a size that is
 -- absent, for a warning and for the name of a triple.
-use Rattle.std.specs.Prelude.{map, None, unwrap_or}
+use Rattle.std.specs.Prelude.{Bool, true, false, map, None, unwrap_or}
 use Rattle.ifs_interface.specs.Interface.{InterfaceRecord}
 use Rattle.ifs_interface.specs.Parts.{parts_of}
 use Rattle.ifs_interface.specs.Extracted.{size_of}
@@ -9,6 +9,13 @@ use Rattle.ifs_interface.specs.declared.symbol.Kind.TheVariants.{NoType, Func, O
 use Rattle.ifs_interface.specs.declared.symbol.Symbol.{Symbol}
 use Rattle.ifs_interface.specs.declared.target.MachineFact.{MachineFact}
 use Rattle.ifs_interface.specs.declared.target.Target.{Target}
+
+abbrev pub is_known : Kind → Bool
+is_known Unknown = false
+is_known NoType = true
+is_known Func = true
+is_known Object = true
+is_known Tls = true
 
 -- Unknown is NoType
 abbrev pub known_kind : Kind → Kind

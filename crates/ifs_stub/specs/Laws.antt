@@ -17,7 +17,7 @@ use Rattle.ifs_stub.specs.declared.layout.Form.{Form}
 use Rattle.ifs_stub.specs.StubFile.{file_by, plan_of, stub_file}
 use Rattle.ifs_stub.specs.Stub.{IsWithin, form_of, stub_of}
 use Rattle.ifs_stub.specs.StubLibrary.{stub_library}
-use Rattle.ifs_stub.specs.Forget.{forget}
+use Rattle.ifs_stub.specs.Forget.{is_known, forget}
 
 -- the file ends behind its six section headers
 abbrev pub StubsEndAtTheirPlace : Type 0
@@ -93,3 +93,12 @@ ExtractedHaveStubs =
 abbrev pub ExtractedAreMade : Type 0
 ExtractedAreMade =
     (file : List ℕ) (library : LibraryRecord) → are_bytes file ≡ true → library_of file ≡ Ok library → stub_of (interface_of library) ≡ Ok (stub_file library.order library.width library.machine (interface_of library))
+
+-- a type that a stub has a place for
+abbrev pub has_known_kind : Symbol → Bool
+has_known_kind symbol = is_known symbol.kind
+
+-- that stub has all of the interface, where each type is known
+abbrev pub ExtractedAreKept : Type 0
+ExtractedAreKept =
+    (library : LibraryRecord) → list_all has_known_kind (interface_of library).symbols ≡ true → forget (interface_of library) ≡ interface_of library

@@ -20,7 +20,7 @@ use Rattle.ifs_stub.specs.Stub.{form_of}
 use Rattle.ifs_stub.specs.StubLibrary.{stub_row, stub_library}
 use Rattle.ifs_stub.specs.declared.layout.Form.{Form}
 use Rattle.ifs_stub.proofs.ReadBack.Interfaces.{target_by}
-use Rattle.ifs_stub.proofs.Runs.{is_named, is_after, rows_of_run}
+use Rattle.ifs_stub.proofs.Runs.{rows_of_run}
 
 -- a name has the row of its symbol, if there is one
 rows_of_name : (name : List ℕ) (symbols : List Symbol) → ascends (names_of symbols) ≡ true → rows_named name (map stub_row symbols) ≡ option_to_list (option_map stub_row (symbol_in symbols name))
@@ -34,8 +34,8 @@ rows_of_name name (s ∷ ss) up =
 
     by : (b : Bool) → same_name s.name name ≡ b → list_all (comes_before s.name) (names_of ss) ≡ true → rows_named name rows ≡ option_to_list (option_map stub_row (symbol_in ss name)) → rows_named name (stub_row s ∷ rows) ≡ option_to_list (option_map stub_row (cond b (Some s) (symbol_in ss name)))
     by true e later rest =
-        let after : list_all (is_after s.name) rows ≡ true = list_all-map (is_after s.name) stub_row ss ∙ sym (list_all-map (comes_before s.name) (λ (t : Symbol). t.name) ss) ∙ later in
-        rows_of_run name (stub_row s ∷ []) rows (and_from (is_named name (stub_row s)) true e refl) (subst (λ n. list_all (is_after n) rows ≡ true) (same_name-is s.name name e) after)
+        let after : list_all (λ row. comes_before s.name row.name) rows ≡ true = list_all-map (λ (row : DynRow). comes_before s.name row.name) stub_row ss ∙ sym (list_all-map (comes_before s.name) (λ (t : Symbol). t.name) ss) ∙ later in
+        rows_of_run name (stub_row s ∷ []) rows (and_from (same_name s.name name) true e refl) (subst (λ n. list_all (λ row. comes_before n row.name) rows ≡ true) (same_name-is s.name name e) after)
     by false e later rest = ap (λ t. cond t (stub_row s ∷ rows_named name rows) (rows_named name rows)) e ∙ rest
 
 -- what that row says

@@ -7,6 +7,8 @@ use Rattle.ifs_bytes.specs.declared.form.Width.{Width}
 use Rattle.ifs_interface.specs.Interface.{InterfaceRecord, IsInterface, comes_before, ascends, names_of}
 use Rattle.ifs_interface.specs.Extracted.{interface_of, visible_names}
 use Rattle.ifs_interface.specs.Parts.{parts_of}
+use Rattle.ifs_interface.specs.Triple.{same_name}
+use Rattle.ifs_interface.specs.declared.row.DynRow.{DynRow}
 use Rattle.ifs_interface.specs.declared.symbol.Kind.{Kind}
 use Rattle.ifs_interface.specs.declared.symbol.Kind.TheVariants.{NoType, Func, Object, Tls, Unknown}
 use Rattle.ifs_interface.specs.declared.symbol.Symbol.{Symbol}
@@ -14,7 +16,7 @@ use Rattle.ifs_interface.proofs.Names.{same_name-itself}
 use Rattle.ifs_stub.specs.declared.layout.Form.{Form}
 use Rattle.ifs_stub.specs.Stub.{form_of}
 use Rattle.ifs_stub.specs.Rows.{symbol_of_run, symbols_by_name}
-use Rattle.ifs_stub.proofs.Runs.{is_named, is_after, symbols_of_run}
+use Rattle.ifs_stub.proofs.Runs.{symbols_of_run}
 use Rattle.std.proofs.lemmas.List.Folds.{list_all-map}
 use Rattle.ifs_stub.specs.Forget.{forget_symbol, forget_target, forget}
 use Rattle.ifs_stub.specs.StubLibrary.{stub_row, stub_library}
@@ -47,8 +49,8 @@ unfolding visible_names
 symbols_of_rows [] up = refl
 symbols_of_rows (s ∷ ss) up =
     let parts = and_parts (list_all (comes_before s.name) (names_of ss)) (ascends (names_of ss)) up in
-    let after : list_all (is_after s.name) (map stub_row ss) ≡ true = list_all-map (is_after s.name) stub_row ss ∙ sym (list_all-map (comes_before s.name) (λ (t : Symbol). t.name) ss) ∙ parts.0 in
-    symbols_of_run (stub_row s) [] (map stub_row ss) (and_from (is_named s.name (stub_row s)) true (same_name-itself s.name) refl) after
+    let after : list_all (λ row. comes_before s.name row.name) (map stub_row ss) ≡ true = list_all-map (λ (row : DynRow). comes_before s.name row.name) stub_row ss ∙ sym (list_all-map (comes_before s.name) (λ (t : Symbol). t.name) ss) ∙ parts.0 in
+    symbols_of_run (stub_row s) [] (map stub_row ss) (and_from (same_name s.name s.name) true (same_name-itself s.name) refl) after
     ∙ ap (λ x. x ∷ symbols_by_name (map stub_row ss)) (symbol_of_row s.name s.kind s.size s.weak s.undefined s.warning)
     ∙ ap (λ xs. forget_symbol s ∷ xs) (symbols_of_rows ss parts.1)
 

@@ -1,6 +1,7 @@
 use Rattle.ifs_stub.proofs.Extracted.{extracted_have_stubs, extracted_are_made}
+use Rattle.ifs_stub.proofs.Kept.{extracted_are_kept}
 use Rattle.ifs_stub.proofs.ReadBack.Stubs.{stubs_are_made}
 use Rattle.ifs_stub.proofs.laws.extracted_interfaces_have_stubs.Goals as goal
 
 pub returns : goal.returns
-returns c = record { made = stubs_are_made; extracted = extracted_have_stubs; extracted_made = extracted_are_made }
+returns c = record { made = stubs_are_made; extracted = extracted_have_stubs; extracted_made = extracted_are_made; kept = extracted_are_kept }
