@@ -1,6 +1,6 @@
 //! Laws on stub files.
 
-ghost use Rattle.ifs_stub.specs.Laws.{StubsEndAtTheirPlace, StubsAreSmall, StubsAreRead, StubsKeepInterfaces, StubsAreReadBack, StubsAreMade, ExtractedHaveStubs, ExtractedAreMade, ExtractedAreKept};
+ghost use Rattle.ifs_stub.specs.Laws.{StubsEndAtTheirPlace, StubsAreSmall, StubsAreRead, StubsKeepInterfaces, StubsKeepFacts, StubsAreReadBack, StubsAreMade, ExtractedHaveStubs, ExtractedAreMade, ExtractedAreKept};
 
 /// A stub file is as long as its parts, each at its place, and below 75,497,472 bytes.
 pub fn stubs_have_their_size()
@@ -11,10 +11,11 @@ pub fn stubs_have_their_size()
 /// A stub is read as the library that it stands for, which has the soname and the needed libraries of the interface
 /// and one row for each symbol. The interface of that library is the one that the stub was made from, but for
 /// what a stub has no place for: an unknown type is no type, an absent size is 0, and warnings and the name of the
-/// triple are gone.
+/// triple are gone. Its facts are those of the interface.
 pub fn stubs_are_read_back()
     ensures read { StubsAreRead }
     ensures kept { StubsKeepInterfaces }
+    ensures facts { StubsKeepFacts }
     ensures read_back { StubsAreReadBack }
 {}
 
