@@ -102,7 +102,7 @@ module _ (width : Width) where
 -- ---- how many names it has, and of how many bytes
 
 -- the name of a symbol is the name that it was made for
-described_name : (name : List ℕ) (o : Option DynRow) (rs : List DynRow) → (described name o rs).name ≡ name
+pub described_name : (name : List ℕ) (o : Option DynRow) (rs : List DynRow) → (described name o rs).name ≡ name
 described_name name (Some r) rs = refl
 described_name name None [] = refl
 described_name name None (r ∷ rs) = refl

@@ -99,3 +99,7 @@ has_known_kind symbol = is_known symbol.kind
 abbrev pub ExtractedAreKept : Type 0
 ExtractedAreKept =
     (library : LibraryRecord) → list_all has_known_kind (interface_of library).symbols ≡ true → forget (interface_of library) ≡ interface_of library
+
+-- the interface of a library has the facts of the library
+abbrev pub ExtractedKeepFacts : Type 0
+ExtractedKeepFacts = (library : LibraryRecord) → facts_of_interface (interface_of library) ≡ facts_of_library library
