@@ -28,6 +28,7 @@ use Rattle.elf_dyn.specs.declared.places.Entries.{Entries}
 use Rattle.elf_dyn.specs.declared.places.Places.{Places}
 use Rattle.elf_dyn.specs.declared.places.Rows.{Rows}
 use Rattle.elf_dyn.specs.declared.places.Strings.{Strings}
+use Rattle.elf_dyn.specs.Rank.{are_bytes}
 use Rattle.elf_dyn.proofs.Proper.{passes, proper_library}
 use Rattle.ifs_interface.specs.Extracted.{interface_of, in_order, visible_names, symbol_named, described, wanted_symbol, rows_named, is_defined, kind_of, size_of}
 use Rattle.ifs_interface.specs.Interface.{IsInterface}
@@ -38,7 +39,7 @@ use Rattle.ifs_interface.specs.declared.row.DynRow.{DynRow}
 use Rattle.ifs_interface.specs.declared.symbol.Kind.{Kind}
 use Rattle.ifs_interface.specs.declared.symbol.Kind.TheVariants.{NoType, Func, Object, Tls, Unknown}
 use Rattle.ifs_interface.specs.declared.symbol.Symbol.{Symbol}
-use Rattle.ifs_stub.specs.Laws.{HasStub, size_fits, are_bytes, form_of_library}
+use Rattle.ifs_stub.specs.Laws.{HasStub, size_fits, form_of_library}
 use Rattle.ifs_stub.specs.Stub.{IsWithin, form_of, stub_of}
 use Rattle.ifs_stub.specs.StubFile.{symbol_name_bytes, needed_name_bytes, soname_bytes, stub_file}
 use Rattle.ifs_stub.proofs.ReadNumbers.{has_small_size, machine_is_below, rows_width, sizes_of_rows}
@@ -101,7 +102,7 @@ module _ (width : Width) where
 -- ---- how many names it has, and of how many bytes
 
 -- the name of a symbol is the name that it was made for
-described_name : (name : List ℕ) (o : Option DynRow) (rs : List DynRow) → (described name o rs).name ≡ name
+pub described_name : (name : List ℕ) (o : Option DynRow) (rs : List DynRow) → (described name o rs).name ≡ name
 described_name name (Some r) rs = refl
 described_name name None [] = refl
 described_name name None (r ∷ rs) = refl

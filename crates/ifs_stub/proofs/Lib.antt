@@ -11,3 +11,4 @@ pub mod Weights
 pub mod ReadNumbers
 pub mod Extracted
 pub mod Kept
+pub mod KeptFacts

@@ -12,3 +12,4 @@ pub mod RowsRead
 pub mod Libraries
 pub mod Interfaces
 pub mod Stubs
+pub mod Facts

@@ -1,8 +1,7 @@
 -- Numbers of a library that was read have the size of their fields.
-use Rattle.std.proofs.Common.{◌≡◌, ℕ, zero, suc, ◌+◌, ◌*◌, ◌/◌, ◌<◌, ◌^◌, Bool, true, not, List, [], ◌∷◌, drop, slice_index, Option, Some, None, Result, Ok, Err, refl, sym, ap, ◌∙◌, arith}
+use Rattle.std.proofs.Common.{◌≡◌, ℕ, zero, suc, ◌+◌, ◌*◌, ◌/◌, ◌<◌, ◌^◌, Bool, true, not, List, [], ◌∷◌, drop, Option, Some, None, Result, Ok, Err, refl, sym, ap, ◌∙◌, arith}
 use Rattle.std.specs.Prelude.{nat_lt, option_map}
 use Rattle.std.specs.List.{list_all}
-use Rattle.std.proofs.lemmas.Bool.{and_parts}
 use Rattle.std.proofs.lemmas.Bool.Decides.{nat_tests}
 use Rattle.byteorder.specs.Numbers.{big_from-lt, little_from-lt}
 use Rattle.ifs_bytes.specs.Field.{number_at, word_size, lies}
@@ -33,19 +32,13 @@ use Rattle.elf_dyn.specs.declared.places.Places.{Places}
 use Rattle.elf_dyn.specs.declared.places.Rows.{Rows}
 use Rattle.elf_dyn.specs.declared.places.Strings.{Strings}
 use Rattle.elf_dyn.specs.declared.constants.TheConstants.{SHT_DYNAMIC, SHT_DYNSYM}
+use Rattle.elf_dyn.specs.Rank.{are_bytes}
+use Rattle.elf_dyn.proofs.Ranking.{AreBytes, bytes_from}
 use Rattle.elf_dyn.proofs.Proper.{passes, all_kept, if_kept}
 use Rattle.ifs_interface.specs.declared.row.DynRow.{DynRow}
 use Rattle.ifs_stub.proofs.Steps.{steps, ok_is}
 
 -- ---- numbers in bytes
-
-abbrev AreBytes : List ℕ → Type 0
-AreBytes xs = (k : ℕ) → slice_index xs k < 256
-
-bytes_of : (xs : List ℕ) → list_all (λ byte. nat_lt byte 256) xs ≡ true → AreBytes xs
-bytes_of [] h k = omega arith
-bytes_of (x ∷ xs) h zero = let first = (and_parts (nat_lt x 256) (list_all (λ byte. nat_lt byte 256) xs) h).0 in grind (arith, nat_tests)
-bytes_of (x ∷ xs) h (suc k) = bytes_of xs (and_parts (nat_lt x 256) (list_all (λ byte. nat_lt byte 256) xs) h).1 k
 
 dropped : (n : ℕ) (xs : List ℕ) → AreBytes xs → AreBytes (drop n xs)
 dropped zero xs h k = h k
@@ -70,7 +63,7 @@ machine_of_tables file e form h is =
     by (Ok t) (Err cause) s same = absurd (cc)
     by (Ok t) (Ok u) (Err cause) same = absurd (cc)
 
-pub machine_is_below : (file : List ℕ) (h : Header) → list_all (λ byte. nat_lt byte 256) file ≡ true → header_of file ≡ Ok h → h.machine < 2 ^ 16
+pub machine_is_below : (file : List ℕ) (h : Header) → are_bytes file ≡ true → header_of file ≡ Ok h → h.machine < 2 ^ 16
 unfolding header_of file_header_at
 machine_is_below file h bytes is =
     by (check (not (is_archive file)) Archive) (check (has_magic file) NotElf) (header.form_of file) is
@@ -78,7 +71,7 @@ machine_is_below file h bytes is =
     by : (c d : Result (Unit {0}) ElfCause) (f : Result Form ElfCause) → (c >>= λ t. d >>= λ u. f >>= λ form. check (lies file 0 (header_size form.width)) (Truncated 0) >>= λ v. tables_of file (file_header_at file 0 form.order form.width) form) ≡ Ok h → h.machine < 2 ^ 16
     by (Ok t) (Ok u) (Ok form) same =
         let last = steps (check (lies file 0 (header_size form.width)) (Truncated 0)) (λ v. tables_of file (file_header_at file 0 form.order form.width) form) h same in
-        omega (arith, machine_of_tables file (file_header_at file 0 form.order form.width) form h last.2, number_is_below file (0 + 18) 2 form.order (bytes_of file bytes))
+        omega (arith, machine_of_tables file (file_header_at file 0 form.order form.width) form h last.2, number_is_below file (0 + 18) 2 form.order (bytes_from file bytes))
     by (Err cause) d f same = absurd (cc)
     by (Ok t) (Err cause) f same = absurd (cc)
     by (Ok t) (Ok u) (Err cause) same = absurd (cc)
@@ -158,7 +151,7 @@ named_size : (width : Width) (r : Row) (name : Option (List ℕ)) → nat_lt r.s
 named_size width r None h = refl
 named_size width r (Some name) h = h
 
-pub sizes_of_rows : (file : List ℕ) (r : Rows) (strings : Strings) → list_all (λ byte. nat_lt byte 256) file ≡ true → list_all (has_small_size r.width) (visible_rows file r strings) ≡ true
+pub sizes_of_rows : (file : List ℕ) (r : Rows) (strings : Strings) → are_bytes file ≡ true → list_all (has_small_size r.width) (visible_rows file r strings) ≡ true
 unfolding visible_rows
 sizes_of_rows file r strings bytes =
-    all_kept (has_small_size r.width) (visible_row file r strings) (λ i. if_kept (has_small_size r.width) (is_candidate (row file r i)) _ (named_size r.width (row file r i) (unless_empty (row_name file r strings i)) (size_of_row file r i (bytes_of file bytes)))) (places 1 r.count)
+    all_kept (has_small_size r.width) (visible_row file r strings) (λ i. if_kept (has_small_size r.width) (is_candidate (row file r i)) _ (named_size r.width (row file r i) (unless_empty (row_name file r strings i)) (size_of_row file r i (bytes_from file bytes)))) (places 1 r.count)

@@ -71,7 +71,7 @@ in_order_run n row (next ∷ run) others h g =
     ap (insert_name row.name) (in_order_run n next run others parts.1 g) ∙ ap (λ m. insert_name m (n ∷ in_order (names others))) (same_name-is row.name n parts.0) ∙ inserted_again n (in_order (names others))
 
 -- the rows of the name are the run
-rows_of_run : (n : List ℕ) (run others : List DynRow) → list_all (is_named n) run ≡ true → list_all (is_after n) others ≡ true → rows_named n (run ++ others) ≡ run
+pub rows_of_run : (n : List ℕ) (run others : List DynRow) → list_all (is_named n) run ≡ true → list_all (is_after n) others ≡ true → rows_named n (run ++ others) ≡ run
 rows_of_run n run others h g =
     filter-append (is_named n) run others ∙ ap (λ xs. xs ++ filter (is_named n) others) (filter_all (is_named n) run h) ∙ ap (λ xs. run ++ xs) (filter_none (is_named n) (is_after n) (λ row e. after_differs n row.name e) others g) ∙ append-nil run
 

@@ -7,8 +7,10 @@ use Rattle.ifs_bytes.specs.declared.form.Width.{Width}
 use Rattle.elf_file.specs.Tables.{section_size}
 use Rattle.elf_file.specs.declared.cause.ElfCause.{ElfCause}
 use Rattle.elf_dyn.specs.Library.{library_of}
+use Rattle.elf_dyn.specs.Rank.{are_bytes}
 use Rattle.ifs_interface.specs.Interface.{InterfaceRecord, IsInterface}
 use Rattle.ifs_interface.specs.Extracted.{interface_of}
+use Rattle.ifs_interface.specs.Facts.{facts_of_library, facts_of_interface}
 use Rattle.ifs_interface.specs.Library.{LibraryRecord}
 use Rattle.ifs_interface.specs.Parts.{parts_of}
 use Rattle.ifs_interface.specs.declared.symbol.Symbol.{Symbol}
@@ -50,6 +52,11 @@ abbrev pub StubsKeepInterfaces : Type 0
 StubsKeepInterfaces =
     (i : InterfaceRecord) (form : Form) → IsInterface i → form_of (parts_of i.target) ≡ Ok form → interface_of (stub_library i form) ≡ forget i
 
+-- and its facts are those of the interface
+abbrev pub StubsKeepFacts : Type 0
+StubsKeepFacts =
+    (i : InterfaceRecord) (form : Form) → IsInterface i → form_of (parts_of i.target) ≡ Ok form → facts_of_library (stub_library i form) ≡ facts_of_interface i
+
 -- the machine is a number of 16 bits, and each size one of 64
 pub record HasNumbers (i : InterfaceRecord) : Type 0 where
   pub machine : unwrap_or (parts_of i.target).machine 0 < 2 ^ 16
@@ -65,10 +72,6 @@ StubsAreReadBack =
     (i : InterfaceRecord) (stub : List ℕ) → IsInterface i → HasNumbers i → stub_of i ≡ Ok stub → interface_in stub ≡ Ok (forget i)
 
 -- ---- the stub of a library's interface
-
--- each number is a byte
-abbrev pub are_bytes : List ℕ → Bool
-are_bytes file = list_all (λ byte. nat_lt byte 256) file
 
 abbrev pub form_of_library : LibraryRecord → Form
 form_of_library library = record { machine = library.machine; order = library.order; width = library.width }
@@ -96,3 +99,7 @@ has_known_kind symbol = is_known symbol.kind
 abbrev pub ExtractedAreKept : Type 0
 ExtractedAreKept =
     (library : LibraryRecord) → list_all has_known_kind (interface_of library).symbols ≡ true → forget (interface_of library) ≡ interface_of library
+
+-- the interface of a library has the facts of the library
+abbrev pub ExtractedKeepFacts : Type 0
+ExtractedKeepFacts = (library : LibraryRecord) → facts_of_interface (interface_of library) ≡ facts_of_library library

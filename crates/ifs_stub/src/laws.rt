@@ -1,6 +1,6 @@
 //! Laws on stub files.
 
-ghost use Rattle.ifs_stub.specs.Laws.{StubsEndAtTheirPlace, StubsAreSmall, StubsAreRead, StubsKeepInterfaces, StubsAreReadBack, StubsAreMade, ExtractedHaveStubs, ExtractedAreMade, ExtractedAreKept};
+ghost use Rattle.ifs_stub.specs.Laws.{StubsEndAtTheirPlace, StubsAreSmall, StubsAreRead, StubsKeepInterfaces, StubsKeepFacts, StubsAreReadBack, StubsAreMade, ExtractedHaveStubs, ExtractedAreMade, ExtractedAreKept, ExtractedKeepFacts};
 
 /// A stub file is as long as its parts, each at its place, and below 75,497,472 bytes.
 pub fn stubs_have_their_size()
@@ -11,18 +11,21 @@ pub fn stubs_have_their_size()
 /// A stub is read as the library that it stands for, which has the soname and the needed libraries of the interface
 /// and one row for each symbol. The interface of that library is the one that the stub was made from, but for
 /// what a stub has no place for: an unknown type is no type, an absent size is 0, and warnings and the name of the
-/// triple are gone.
+/// triple are gone. Its facts are those of the interface.
 pub fn stubs_are_read_back()
     ensures read { StubsAreRead }
     ensures kept { StubsKeepInterfaces }
+    ensures facts { StubsKeepFacts }
     ensures read_back { StubsAreReadBack }
 {}
 
 /// The interface of a library that was read has a stub of the library's machine, order and width: it is within the
-/// limits, and its sizes have their places. Where all types are known, the stub has all of the interface.
+/// limits, and its sizes have their places. Where all types are known, the stub has all of the interface. The facts of
+/// the interface are those of the library, and so are the facts of the stub.
 pub fn extracted_interfaces_have_stubs()
     ensures made { StubsAreMade }
     ensures extracted { ExtractedHaveStubs }
     ensures extracted_made { ExtractedAreMade }
     ensures kept { ExtractedAreKept }
+    ensures facts { ExtractedKeepFacts }
 {}

@@ -6,7 +6,11 @@
 //!
 //! A stub library has what an interface says and nothing else: the file is described part by part in
 //! specs/StubFile.antt, each part with its place and its bytes. `emit` looks at the limits, counts the names,
-//! takes the room for the whole file, and writes each part once, in order.
+//! takes the room for the whole file, and writes each part once, in order. Laws say that what is written is read
+//! back (`stubs_are_read_back`), and that the interface of a library always has a stub
+//! (`extracted_interfaces_have_stubs`).
+//!
+//! A body that always answers that memory ran out meets each of these contracts: that calls succeed is tested.
 #![tactic(auto)]
 
 mod cause;
