@@ -8,7 +8,7 @@ use Rattle.ifs_interface.specs.declared.row.DynRow.{DynRow}
 use Rattle.ifs_interface.specs.Triple.{same_name}
 use Rattle.ifs_interface.specs.Extracted.{is_defined, is_weak, described, symbol_of}
 use Rattle.ifs_stub.specs.Rows.{pointed, run_length, symbol_of_run}
-use Rattle.ifs_stub.proofs.Lists.{prefix_len_map_of}
+use Rattle.ifs_interface.proofs.Lists.{prefix_len_map_of}
 
 -- the first defined row from a place on
 pub find_defined_from : (rows : List (Bor DynRow)) (i : ℕ) (row : Bor DynRow) → i < length rows → row ≡ get_or rows i row → find is_defined (pointed (drop i rows)) ≡ cond (is_defined row.now) (Some row.now) (find is_defined (pointed (drop (i + 1) rows)))

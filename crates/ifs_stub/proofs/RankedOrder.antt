@@ -19,8 +19,8 @@ use Rattle.ifs_stub.specs.declared.ranked.Ranked.{Ranked}
 use Rattle.ifs_stub.specs.Rank.{are_bytes, rank}
 use Rattle.ifs_stub.specs.Rows.{pointed, AreInNameOrder, IsSortedByName}
 use Rattle.ifs_interface.proofs.Names.{same_name-is}
-use Rattle.ifs_stub.proofs.NameOrder.{compared, equal_ties}
-use Rattle.ifs_stub.proofs.Lists.{filter_map_of, map_map}
+use Rattle.ifs_interface.proofs.NameOrder.{compared, equal_ties}
+use Rattle.ifs_interface.proofs.Lists.{filter_map_of, map_map}
 use Rattle.ifs_stub.proofs.Runs.{is_named}
 use Rattle.ifs_stub.proofs.Ranking.{AreBytes, bytes_from, by_rank}
 

@@ -11,7 +11,7 @@ use Rattle.std.proofs.lemmas.Bool.Decides.{nat_tests}
 use Rattle.ifs_interface.specs.Triple.{same_name}
 use Rattle.ifs_interface.specs.Interface.{comes_before}
 use Rattle.ifs_stub.specs.Rank.{are_bytes, leading, rank}
-use Rattle.ifs_stub.proofs.NameOrder.{compared}
+use Rattle.ifs_interface.proofs.NameOrder.{compared}
 
 -- each is a byte
 abbrev pub AreBytes : List ℕ → Type 0

@@ -16,10 +16,10 @@ use Rattle.ifs_interface.specs.Interface.{comes_before, ascends, is_proper_name,
 use Rattle.ifs_interface.specs.Extracted.{in_order, rows_named, symbol_named, visible_names, described, is_defined}
 use Rattle.ifs_stub.specs.Rows.{pointed, run_length, symbol_of_run, symbols_by_name, IsSortedByName}
 use Rattle.ifs_interface.proofs.Names.{rises, rises-from_sorted}
-use Rattle.ifs_stub.proofs.NameOrder.{same_ties}
-use Rattle.ifs_stub.proofs.Lists.{filter_map_of, any_map_of, any_by_filter, has_some, map_map, map_itself}
-use Rattle.ifs_stub.proofs.InOrder.{has, has_in_order, in_order_ascends, ascending_unique, all_in_order}
-use Rattle.ifs_stub.proofs.Runs.{is_named, names, symbol_by, run_length_in, symbols_from}
+use Rattle.ifs_interface.proofs.NameOrder.{same_ties}
+use Rattle.ifs_interface.proofs.Lists.{filter_map_of, any_map_of, any_by_filter, has_some, map_map, map_itself}
+use Rattle.ifs_interface.proofs.InOrder.{has, has_in_order, in_order_ascends, ascending_unique, all_in_order}
+use Rattle.ifs_stub.proofs.Runs.{is_named, names, run_length_in, symbols_from, symbols_of_groups}
 
 -- ---- what the sort leaves
 
@@ -52,15 +52,8 @@ sorted_by_name rows old new same up stable = record {
 
 -- ---- the symbols of sorted rows are those of the rows
 
-has_named : (q : List ℕ) (rows : List DynRow) → has q (names rows) ≡ has_some (rows_named q rows)
-has_named q rows = any_map_of (λ m. same_name m q) (λ row. row.name) rows ∙ any_by_filter (is_named q) rows
-
 pub symbols_of_sorted : (rows : List DynRow) (sorted : List (Bor DynRow)) → IsSortedByName rows sorted → symbols_by_name (pointed sorted) ≡ symbols_by_name rows
-unfolding visible_names symbol_named
-symbols_of_sorted rows references is =
-    let sorted = pointed references in
-    let same_names : in_order (names sorted) ≡ in_order (names rows) = ascending_unique (in_order (names sorted)) (in_order (names rows)) (in_order_ascends (names sorted)) (in_order_ascends (names rows)) (λ q. has_in_order q (names sorted) ∙ has_named q sorted ∙ ap has_some (is.same_rows q) ∙ sym (has_named q rows) ∙ sym (has_in_order q (names rows))) in
-    λ i. map (λ name. symbol_by name (is.same_rows name i)) (same_names i)
+symbols_of_sorted rows sorted is = symbols_of_groups (pointed sorted) rows is.same_rows
 
 -- ---- the pass over the runs
 

@@ -1,7 +1,7 @@
 use Rattle.std.proofs.Common.{◌≡◌, map, refl, sym, ◌∙◌, rules}
 use Rattle.std.proofs.lemmas.Iterator.{YieldsList-from_slice, YieldsList-from_map, items_from_drains}
 use Rattle.std.proofs.lemmas.List.Sorted.{answers_always}
-use Rattle.ifs_stub.proofs.Lists.{map_itself}
+use Rattle.ifs_interface.proofs.Lists.{map_itself}
 use Rattle.ifs_stub.proofs.RankedOrder.{before, before_ranks, sorted_by_rank}
 use Rattle.ifs_stub.proofs.collapse.sorted_by_name.Goals as goal
 

@@ -4,7 +4,7 @@ use Rattle.std.specs.List.{list_all}
 use Rattle.std.proofs.lemmas.List.Folds.{list_all-map}
 use Rattle.ifs_stub.specs.declared.ranked.Ranked.{Ranked}
 use Rattle.ifs_stub.specs.Rank.{are_bytes, rank}
-use Rattle.ifs_stub.proofs.Lists.{map_itself}
+use Rattle.ifs_interface.proofs.Lists.{map_itself}
 use Rattle.ifs_stub.proofs.ranked.with_ranks.Goals as goal
 
 pub returns-clause-rows : goal.returns-clause-rows

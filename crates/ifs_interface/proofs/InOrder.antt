@@ -10,8 +10,8 @@ use Rattle.ifs_interface.specs.Interface.{comes_before, ascends}
 use Rattle.ifs_interface.specs.Extracted.{insert_name, in_order}
 use Rattle.ifs_interface.proofs.Names.{same_name-is, same_name-itself, before_trans}
 use Rattle.ifs_interface.proofs.Repeats.{list_all-weaker}
-use Rattle.ifs_stub.proofs.NameOrder.{compared, is_less, equal_itself, equal_is, greater_back, after_differs}
-use Rattle.ifs_stub.proofs.Lists.{any_none}
+use Rattle.ifs_interface.proofs.NameOrder.{compared, is_less, equal_itself, equal_is, greater_back, after_differs}
+use Rattle.ifs_interface.proofs.Lists.{any_none}
 
 -- a name of this order against the first of names, among these
 abbrev placed : Ordering → List ℕ → List ℕ → List (List ℕ) → List (List ℕ)
@@ -100,7 +100,7 @@ pub has_in_order : (q : List ℕ) (ns : List (List ℕ)) → has q (in_order ns)
 has_in_order q [] = refl
 has_in_order q (n ∷ ns) = has_inserted q n (in_order ns) ∙ ap (λ t. same_name n q || t) (has_in_order q ns)
 
-has_itself : (n : List ℕ) (ns : List (List ℕ)) → has n (n ∷ ns) ≡ true
+pub has_itself : (n : List ℕ) (ns : List (List ℕ)) → has n (n ∷ ns) ≡ true
 has_itself n ns = ap (λ t. t || has n ns) (same_name-itself n)
 
 has_no_earlier : (n : List ℕ) (ms : List (List ℕ)) → list_all (comes_before n) ms ≡ true → has n ms ≡ false
