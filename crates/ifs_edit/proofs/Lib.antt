@@ -2,3 +2,10 @@ pub mod Matching
 pub mod Reading
 pub mod Kept
 pub mod Whole
+pub mod Pointed
+pub mod Uniting
+pub mod Binding
+pub mod Sorting
+pub mod UnitedNames
+pub mod Sameness
+pub mod Reordered

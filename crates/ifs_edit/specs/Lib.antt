@@ -5,3 +5,6 @@ pub mod Parsed
 pub mod Printed
 pub mod Adjusted
 pub mod Stripped
+pub mod Merged
+pub mod Sorted
+pub mod Laws

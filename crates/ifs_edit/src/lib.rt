@@ -1,4 +1,4 @@
-//! Edits of interfaces: patterns of names, what is kept of symbols and targets.
+//! Edits of interfaces: patterns of names, what is kept of symbols and targets, and one interface of several.
 #![tactic(auto)]
 
 mod adjusted;
@@ -7,14 +7,20 @@ mod conflict;
 mod element;
 mod front;
 mod glob;
+mod laws;
+mod merged;
 mod set;
 mod soname;
+mod sorted;
 mod strip;
+mod united;
 
 pub use adjusted::{AdjustOptions, adjust};
 pub use cause::{AdjustCause, GlobCause, MergeCause};
 pub use element::{Element, Span};
 pub use glob::Glob;
+pub use laws::merges_in_any_order;
+pub use merged::merge;
 pub use strip::{Strip, strip_target};
 
 #[cfg(test)]

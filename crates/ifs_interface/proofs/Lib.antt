@@ -5,3 +5,5 @@ pub mod Lookup
 pub mod WantedRows
 pub mod Names
 pub mod Repeats
+pub mod InOrder
+pub mod Groups

@@ -14,7 +14,7 @@ use Rattle.ifs_interface.specs.declared.symbol.Symbol.{Symbol}
 use Rattle.ifs_interface.proofs.Lists.{has_some, any_map_of, any_by_filter}
 use Rattle.ifs_interface.proofs.Names.{same_name-is}
 use Rattle.ifs_stub.proofs.Extracted.{described_name}
-use Rattle.ifs_stub.proofs.InOrder.{has, has_in_order}
+use Rattle.ifs_interface.proofs.InOrder.{has, has_in_order}
 
 -- ---- the symbol of a name
 

@@ -17,7 +17,7 @@ use Rattle.ifs_interface.proofs.Names.{same_name-is, same_name-itself, before_di
 use Rattle.ifs_interface.proofs.Repeats.{list_all-weaker}
 use Rattle.ifs_interface.proofs.NameOrder.{after_differs, before_later}
 use Rattle.ifs_interface.proofs.Lists.{filter_all, filter_none, map_agree}
-use Rattle.ifs_stub.proofs.InOrder.{all_in_order, inserted_first, inserted_again}
+use Rattle.ifs_interface.proofs.InOrder.{all_in_order, inserted_first, inserted_again}
 
 -- the row's name comes after the name
 abbrev pub is_after : List ℕ → DynRow → Bool

@@ -16,7 +16,7 @@ use Rattle.elf_dyn.specs.ByName as order
 use Rattle.elf_dyn.proofs.RankedOrder.{is_named}
 use Rattle.ifs_interface.proofs.Names.{rises, rises-from_sorted}
 use Rattle.ifs_interface.proofs.Lists.{any_map_of, any_by_filter, has_some, map_map, map_itself}
-use Rattle.ifs_stub.proofs.InOrder.{has, has_in_order, in_order_ascends, ascending_unique, all_in_order}
+use Rattle.ifs_interface.proofs.InOrder.{has, has_in_order, in_order_ascends, ascending_unique, all_in_order}
 use Rattle.ifs_stub.proofs.Runs.{names, symbol_by, run_length_in, symbols_from}
 
 -- ---- references to rows in order

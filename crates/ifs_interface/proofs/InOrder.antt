@@ -100,7 +100,7 @@ pub has_in_order : (q : List ℕ) (ns : List (List ℕ)) → has q (in_order ns)
 has_in_order q [] = refl
 has_in_order q (n ∷ ns) = has_inserted q n (in_order ns) ∙ ap (λ t. same_name n q || t) (has_in_order q ns)
 
-has_itself : (n : List ℕ) (ns : List (List ℕ)) → has n (n ∷ ns) ≡ true
+pub has_itself : (n : List ℕ) (ns : List (List ℕ)) → has n (n ∷ ns) ≡ true
 has_itself n ns = ap (λ t. t || has n ns) (same_name-itself n)
 
 has_no_earlier : (n : List ℕ) (ms : List (List ℕ)) → list_all (comes_before n) ms ≡ true → has n ms ≡ false

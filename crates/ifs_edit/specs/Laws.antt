@@ -1,0 +1,10 @@
+-- What holds of each merge.
+use Rattle.std.specs.Prelude.{◌≡◌, List, Result, Ok}
+use Rattle.std.specs.List.Sorted.{IsPermutation}
+use Rattle.ifs_interface.specs.Interface.{InterfaceRecord}
+use Rattle.ifs_edit.specs.Merged.{merged}
+
+-- where the inputs are an interface together, they are the same one in any order
+abbrev pub MergesInAnyOrder : Type 0
+MergesInAnyOrder =
+    (xs ys : List InterfaceRecord) (i : InterfaceRecord) → IsPermutation xs ys → merged xs ≡ Ok i → merged ys ≡ Ok i
