@@ -1,0 +1,6 @@
+pub mod Settings
+pub mod Values
+pub mod Reading
+pub mod Stub
+pub mod Words
+pub mod Printed
