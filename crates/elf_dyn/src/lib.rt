@@ -3,7 +3,9 @@
 //!
 //! Both ways into a library, by its sections and by its segments, end in `Places`: where the dynamic entries,
 //! the rows of the dynamic symbol table and their strings stand in the file. All later steps know these
-//! alone, and each is a fact on places of the whole file.
+//! alone, and each is a fact on places of the whole file. Names are counted before any is copied, by where the next NUL
+//! is (`names`), since they may overlap. What was read keeps its rows by name too (`by_name`), so that a link can ask of
+//! each name what it is (`facts`).
 #![tactic(auto)]
 
 mod addresses;
