@@ -4,3 +4,4 @@ pub mod Reading
 pub mod Stub
 pub mod Words
 pub mod Printed
+pub mod Usable

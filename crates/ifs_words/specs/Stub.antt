@@ -1,5 +1,5 @@
 -- What the words behind `stub` ask for.
-use Rattle.std.specs.Prelude.{ℕ, Bool, true, false, not, ◌&&◌, nat_le, List, [], ◌∷◌, ◌++◌, length, Option, Some, None, option_and_then, Result, Ok, Err, is_some, if◌then◌else◌}
+use Rattle.std.specs.Prelude.{ℕ, Bool, true, false, not, ◌&&◌, nat_le, List, [], ◌∷◌, ◌++◌, length, Option, Some, None, option_and_then, Result, Ok, Err, if◌then◌else◌}
 use Rattle.std.specs.Str.{bytes_eq}
 use Rattle.ifs_bytes.specs.Outcome.{◌>>=◌, check}
 use Rattle.ifs_interface.specs.declared.target.Target.{Target}
@@ -13,7 +13,6 @@ use Rattle.ifs_words.specs.declared.cause.WordCause.{WordCause}
 use Rattle.ifs_words.specs.declared.cause.WordCause.TheVariants.{Conflict, NoInput, TooManyInputs}
 use Rattle.ifs_words.specs.declared.command.StubWords.{StubWords}
 use Rattle.ifs_words.specs.declared.given.Given.{Given}
-use Rattle.ifs_words.specs.declared.read.Read.{Read}
 use Rattle.ifs_words.specs.declared.settings.Setting.{Setting}
 use Rattle.ifs_words.specs.declared.settings.Setting.TheVariants as settings
 use Rattle.ifs_words.specs.Reading.{has, is_of, nothing, read_from, value_of}

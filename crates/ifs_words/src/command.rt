@@ -1,7 +1,8 @@
 //! Commands with their values.
 
-ghost use Rattle.std.specs.Prelude.{◌≡◌, map, string_bytes};
+ghost use Rattle.std.specs.Prelude.{IfOk, map, string_bytes};
 ghost use Rattle.ifs_bytes.specs.Outcome.{UnlessMemory};
+ghost use Rattle.ifs_words.specs.Usable.{CanAdjust};
 ghost use Rattle.ifs_words.specs.Words.{words_of};
 
 use crate::cause::WordCause;
@@ -50,15 +51,23 @@ impl Command {
     /// of single words at the first word that has one, in the order of `WordCause`, then those of all words together. An
     /// option and a value in the word behind it are one word here.
     pub fn parse(alloc: Global, words: &[String]) -> Result<Command, WordCause>
-        ensures { UnlessMemory WordCause.Memory result (words_of (map string_bytes words.now)) }
+        ensures meant { UnlessMemory WordCause.Memory result (words_of (map string_bytes words.now)) }
+        ensures usable { IfOk result CanAdjust }
     {
-        let [command, rest @ ..] = words else {
-            return Err(WordCause::NoCommand);
-        };
-        if command.as_bytes() == b"stub".as_slice() {
-            return Ok(Command::Stub(stub_of(alloc, rest)?));
-        }
-        let command = Text::from_slice(alloc, command.as_bytes())?;
-        Err(WordCause::UnknownCommand(command))
+        command_of(alloc, words)
     }
+}
+
+// The command that the words ask for, or the first cause.
+fn command_of(alloc: Global, words: &[String]) -> Result<Command, WordCause>
+    ensures { UnlessMemory WordCause.Memory result (words_of (map string_bytes words.now)) }
+{
+    let [command, rest @ ..] = words else {
+        return Err(WordCause::NoCommand);
+    };
+    if command.as_bytes() == b"stub".as_slice() {
+        return Ok(Command::Stub(stub_of(alloc, rest)?));
+    }
+    let command = Text::from_slice(alloc, command.as_bytes())?;
+    Err(WordCause::UnknownCommand(command))
 }

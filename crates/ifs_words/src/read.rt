@@ -3,7 +3,7 @@
 ghost use Rattle.std.specs.Prelude.{◌≡◌, IfOk, Ok, map, string_bytes};
 ghost use Rattle.std.specs.Option.{option_copied};
 ghost use Rattle.ifs_bytes.specs.Outcome.{UnlessMemory};
-ghost use Rattle.ifs_words.specs.Reading.{awaiting, ended, equals_at, given, known, known_in, name_in, nothing, read_from, valued, value_in, with_any, with_given, with_option, with_path, with_word};
+ghost use Rattle.ifs_words.specs.Reading.{awaiting, ended, equals_at, given, known, name_in, nothing, read_from, valued, value_in, with_any, with_given, with_option, with_path, with_word};
 
 use crate::cause::WordCause;
 use crate::given::{Given, Next, has};
