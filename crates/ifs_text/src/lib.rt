@@ -1,9 +1,23 @@
 //! Interfaces as IFS text, the YAML that people read and keep beside their sources.
+//!
+//! `print` appends line by line. `read` looks for the first fault of the maps of a text without taking memory, and
+//! makes the interface where there is none; whether a name stands twice is known once the symbols are in order.
 #![tactic(auto)]
 
+mod cause;
+mod fault;
+mod maps;
 mod printed;
+mod reading;
+mod root;
+mod second;
+mod symbols;
+mod target;
+mod values;
 
+pub use cause::TextCause;
 pub use printed::print;
+pub use reading::read;
 
 #[cfg(test)]
 mod tests;

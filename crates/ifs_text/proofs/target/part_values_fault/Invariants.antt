@@ -1,0 +1,7 @@
+use Rattle.std.proofs.Common.{◌≡◌, drop}
+use Rattle.ifs_text.specs.Maps.{first_of}
+use Rattle.ifs_text.specs.Faults.{part_fault}
+use Rattle.ifs_text.proofs.target.part_values_fault.Given as goal
+
+abbrev pub invariant-loop-entry : goal.invariant-loop-entry
+invariant-loop-entry l = first_of part_fault (drop l.entry-index l.entries) ≡ first_of part_fault l.entries
