@@ -3,7 +3,7 @@ use Rattle.std.specs.Prelude.{ℕ, List, [], Option, Some, None}
 use Rattle.yaml_nodes.specs.declared.node.Node.{Node, out-Node}
 use Rattle.yaml_nodes.specs.declared.node.Node.TheVariants as node
 use Rattle.yaml_nodes.specs.declared.node.Node.TheOpen.{Node-F}
-use Rattle.yaml_nodes.specs.declared.node.Entry.{Entry, roll-Entry}
+use Rattle.yaml_nodes.specs.declared.node.Entry.{Entry, roll-Entry, out-Entry}
 
 -- one level of a node
 abbrev pub Layer : Type 0
@@ -30,6 +30,13 @@ items_of n = items_in (out-Node n)
 
 abbrev pub entries_of : Node → Option (List Entry)
 entries_of n = entries_in (out-Node n)
+
+-- the key and the value of an entry
+abbrev pub key_of : Entry → List ℕ
+key_of e = (out-Entry e).key
+
+abbrev pub value_of : Entry → Node
+value_of e = (out-Entry e).value
 
 abbrev pub entry : List ℕ → Node → Entry
 entry key value = roll-Entry (record { key = key; value = value })

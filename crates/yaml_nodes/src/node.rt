@@ -2,7 +2,7 @@
 
 ghost use Rattle.std.specs.Prelude.{◌≡◌};
 ghost use Rattle.std.specs.Option.{option_copied};
-ghost use Rattle.yaml_nodes.specs.Nodes.{text_of, items_of, entries_of};
+ghost use Rattle.yaml_nodes.specs.Nodes.{text_of, items_of, entries_of, key_of, value_of};
 
 use ifs_bytes::Text;
 use sqlite_items::Items;
@@ -58,5 +58,21 @@ impl Node {
             Node::Map(entries) => Some(entries.as_slice()),
             Node::Scalar(_) | Node::Seq(_) => None,
         }
+    }
+}
+
+impl Entry {
+    /// The text of the key.
+    pub fn key(&self) -> &[u8]
+        ensures { result.now ≡ key_of self.now }
+    {
+        self.key.as_bytes()
+    }
+
+    /// The value.
+    pub fn value(&self) -> &Node
+        ensures { result.now ≡ value_of self.now }
+    {
+        &self.value
     }
 }
