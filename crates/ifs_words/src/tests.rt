@@ -1,6 +1,7 @@
 use super::*;
 use ifs_bytes::{Memory, Order, Text, Width};
 use std::alloc::Global;
+use std::fmt::InlineText;
 use std::test::Fail;
 
 // The words of a line, which spaces part.
@@ -152,30 +153,31 @@ fn causes_of_lines(rt: HostRuntime) -> Result<(), Fail> {
     Ok(())
 }
 
-// The words `stub` and so many paths.
-fn many(alloc: Global, count: usize) -> Result<Vec<String>, Memory> {
+// The word `stub`, and another so many times.
+fn many(alloc: Global, word: &str, count: usize) -> Result<Vec<String>, Memory> {
     let mut words = words_in(alloc, "stub")?;
-    for _path in 0..count {
-        words.push(String::from_str(alloc, "F")?)?;
+    for _turn in 0..count {
+        words.push(String::from_str(alloc, word)?)?;
     }
     Ok(words)
 }
 
 #[test]
-fn many_paths(rt: HostRuntime) -> Result<(), Fail> {
+fn many_words(rt: HostRuntime) -> Result<(), Fail> {
     let alloc = rt.alloc();
-    let rows: [(usize, &[u8]); 4] = [
-        (1, b"none"),
-        (4096, b"none"),
-        (4097, b"TooManyInputs(4097)"),
-        (20000, b"TooManyInputs(20000)"),
+    let rows: [(&str, usize, &[u8]); 5] = [
+        ("F", 1, b"none"),
+        ("F", 4096, b"none"),
+        ("F", 4097, b"TooManyInputs(4097)"),
+        ("F", 20000, b"TooManyInputs(20000)"),
+        ("--exclude=a*", 20000, b"NoInput"),
     ];
-    for (count, cause) in rows {
-        let words = many(alloc, count)?;
+    for (word, count, cause) in rows {
+        let words = many(alloc, word, count)?;
         let got = told(alloc, words.as_slice())?;
         assert_eq!(rt; got.as_bytes(), cause);
     }
-    let mut words = many(alloc, 5000)?;
+    let mut words = many(alloc, "F", 5000)?;
     words.push(String::from_str(alloc, "--target=arm-x")?)?;
     words.push(String::from_str(alloc, "--arch=arm")?)?;
     let got = told(alloc, words.as_slice())?;
@@ -218,5 +220,28 @@ fn values_of_stub(rt: HostRuntime) -> Result<(), Fail> {
     assert!(rt; is_text(&stub.adjust.given.triple, b"arm-none-eabi"));
     assert!(rt; stub.output_ifs.is_none() && stub.output_elf.is_none());
     assert!(rt; !stub.write_if_changed);
+    Ok(())
+}
+
+// What no line of `stub` gives, and the messages for callers that take any error.
+#[test]
+fn causes_as_text(rt: HostRuntime) -> Result<(), Fail> {
+    let alloc = rt.alloc();
+    let missing = WordCause::MissingOption(Text::from_slice(alloc, b"--to")?);
+    assert_eq!(rt;
+        missing.printed(alloc)?.as_bytes(),
+        b"MissingOption(--to)".as_slice()
+    );
+    assert_eq!(rt;
+        WordCause::Memory.printed(alloc)?.as_bytes(),
+        b"Memory".as_slice()
+    );
+    let message: InlineText<64> = InlineText::of(missing);
+    assert_eq!(rt;
+        message.as_str(),
+        "the command needs an option that isn't there"
+    );
+    let message: InlineText<64> = InlineText::of(WordCause::NoInput);
+    assert_eq!(rt; message.as_str(), "there is no input");
     Ok(())
 }
