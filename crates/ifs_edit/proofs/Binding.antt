@@ -1,5 +1,5 @@
 -- Results that are bound, and results that are meant unless memory ran out.
-use Rattle.std.proofs.Common.{◌≡◌, ◌⊎◌, inl, inr, refl, sym, ap, ◌∙◌}
+use Rattle.std.proofs.Common.{◌≡◌, inl, inr, refl, sym, ap}
 use Rattle.std.specs.Prelude.{Result, Ok, Err}
 use Rattle.ifs_bytes.specs.Outcome.{UnlessMemory, ◌>>=◌}
 

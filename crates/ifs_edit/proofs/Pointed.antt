@@ -1,5 +1,5 @@
 -- Symbols behind references.
-use Rattle.std.proofs.Common.{◌≡◌, ℕ, ◌+◌, ◌<◌, Bool, true, cond, not, List, [], ◌∷◌, ◌++◌, map, take, length, get_or, drop, Option, Some, None, refl, sym, ap, ◌∙◌, append_assoc, arith}
+use Rattle.std.proofs.Common.{◌≡◌, ℕ, ◌+◌, ◌<◌, Bool, true, cond, not, List, [], ◌∷◌, ◌++◌, length, get_or, drop, Option, Some, refl, sym, ap, ◌∙◌, arith}
 use Rattle.std.specs.List.{find, list_all, prefix_len, take_while}
 use Rattle.std.proofs.lemmas.Bool.{and_parts, and_from}
 use Rattle.ifs_interface.specs.Interface.{InterfaceRecord, IsInterface, is_proper_name, names_of}

@@ -1,7 +1,7 @@
 -- A merge in another order.
-use Rattle.std.proofs.Common.{◌≡◌, ℕ, ◌+◌, Bool, true, false, cond, not, ◌&&◌, ◌||◌, List, [], ◌∷◌, ◌++◌, map, filter, length, Option, Some, None, refl, sym, ap, ◌∙◌, subst, arith}
-use Rattle.std.specs.Prelude.{Result, Ok, Err}
-use Rattle.std.specs.List.{find, list_all, list_any, flat_map}
+use Rattle.std.proofs.Common.{◌≡◌, ℕ, ◌+◌, Bool, true, false, cond, not, ◌&&◌, ◌||◌, List, [], ◌∷◌, map, Some, None, refl, sym, ap, ◌∙◌, subst, arith}
+use Rattle.std.specs.Prelude.{Result, Ok}
+use Rattle.std.specs.List.{find, list_all, list_any}
 use Rattle.std.specs.List.Sorted.{IsPermutation}
 use Rattle.std.proofs.lemmas.Bool.{false≢true, and_parts, and_from}
 use Rattle.std.proofs.lemmas.List.Elements.{filter-append}
@@ -15,14 +15,14 @@ use Rattle.ifs_interface.specs.Interface.{InterfaceRecord, names_of}
 use Rattle.ifs_interface.proofs.Names.{same_name-is, same_name-itself, list_all-IsPermutation}
 use Rattle.ifs_interface.proofs.Repeats.{list_all-weaker}
 use Rattle.ifs_interface.proofs.Lists.{has_some, any_by_filter}
-use Rattle.ifs_interface.proofs.InOrder.{ascending_unique, has, has_in_order, in_order_ascends}
+use Rattle.ifs_interface.proofs.InOrder.{ascending_unique, has_in_order, in_order_ascends}
 use Rattle.ifs_interface.proofs.Groups.{all_some, group_is_named, has_named}
 use Rattle.ifs_edit.specs.declared.cause.MergeCause.{MergeCause}
 use Rattle.ifs_edit.specs.declared.cause.MergeCause.TheVariants.{TargetMismatch, SonameMismatch, NeededMismatch}
 use Rattle.ifs_edit.specs.declared.united.Field.{Field}
 use Rattle.ifs_edit.specs.declared.united.Field.TheVariants.{Kind as Kinds, Size, Weak, Undefined, Warning}
 use Rattle.ifs_edit.specs.Merged.{agree_in, all_agree, all_symbols, by_name, merged, parts_agree, same_in, same_names, same_parts, same_soname, same_target, united, united_each, unless_other, with_symbols}
-use Rattle.ifs_edit.proofs.Binding.{bound_ok, same_ok}
+use Rattle.ifs_edit.proofs.Binding.{bound_ok}
 use Rattle.ifs_edit.proofs.Sameness.{in_itself, names_is, same_symbol, soname_is, symbol_is, target_is}
 use Rattle.ifs_edit.proofs.UnitedNames.{group, named}
 

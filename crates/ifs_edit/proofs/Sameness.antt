@@ -1,7 +1,7 @@
 -- What is the same by the tests is equal, and passes the tests with itself.
-use Rattle.std.proofs.Common.{◌≡◌, ℕ, Bool, true, false, ◌&&◌, not, List, [], ◌∷◌, Option, Some, None, refl, sym, ap, ◌∙◌, subst}
+use Rattle.std.proofs.Common.{◌≡◌, ℕ, Bool, true, false, ◌&&◌, List, [], ◌∷◌, Option, Some, None, refl, ap}
 use Rattle.std.specs.Prelude.{nat_eq}
-use Rattle.std.proofs.lemmas.Bool.{false≢true, and_parts, and_from, eqb-true, eq-eqb}
+use Rattle.std.proofs.lemmas.Bool.{false≢true, and_parts, eqb-true, eq-eqb}
 use Rattle.ifs_bytes.specs.declared.form.Order.{Order}
 use Rattle.ifs_bytes.specs.declared.form.Order.TheVariants.{Little, Big}
 use Rattle.ifs_bytes.specs.declared.form.Width.{Width}

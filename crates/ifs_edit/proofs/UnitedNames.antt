@@ -1,9 +1,8 @@
 -- The names of symbols that were united.
-use Rattle.std.proofs.Common.{◌≡◌, ℕ, Bool, true, false, cond, ◌||◌, List, [], ◌∷◌, map, filter, length, get_or, ◌<◌, refl, sym, ap, ◌∙◌, subst, arith}
+use Rattle.std.proofs.Common.{◌≡◌, ℕ, Bool, true, List, [], ◌∷◌, map, filter, length, get_or, ◌<◌, sym, ap, ◌∙◌, arith}
 use Rattle.std.specs.Prelude.{Result, Ok, Err}
-use Rattle.std.specs.List.{list_all, list_any}
-use Rattle.std.proofs.lemmas.Bool.{false≢true, and_parts, and_from, or_right}
-use Rattle.std.proofs.lemmas.List.Folds.{list_all-map}
+use Rattle.std.specs.List.{list_all}
+use Rattle.std.proofs.lemmas.Bool.{false≢true, and_parts}
 use Rattle.ifs_bytes.specs.Outcome.{◌>>=◌}
 use denote.Ref.{Bor}
 use Rattle.ifs_interface.specs.declared.symbol.Symbol.{Symbol}
@@ -12,12 +11,12 @@ use Rattle.ifs_interface.specs.Extracted.{in_order}
 use Rattle.ifs_interface.specs.Interface.{InterfaceRecord, ascends, is_proper_name, names_of}
 use Rattle.ifs_interface.proofs.Names.{same_name-is}
 use Rattle.ifs_interface.proofs.Lists.{has_some}
-use Rattle.ifs_interface.proofs.InOrder.{all_in_order, has, has_itself, in_order_ascends}
+use Rattle.ifs_interface.proofs.InOrder.{all_in_order, in_order_ascends}
 use Rattle.ifs_interface.proofs.Groups.{all_some, group_is_named}
 use Rattle.ifs_edit.specs.declared.cause.MergeCause.{MergeCause}
 use Rattle.ifs_edit.specs.Merged.{all_agree, all_symbols, by_name, merged, parts_agree, united, united_each, with_symbols}
 use Rattle.ifs_edit.specs.Sorted.{pointed, IsSortedByName}
-use Rattle.ifs_edit.proofs.Binding.{bound_ok, same_ok}
+use Rattle.ifs_edit.proofs.Binding.{bound_ok}
 use Rattle.ifs_edit.proofs.Sorting.{sorted_groups}
 
 -- the symbol has the name; the symbols of a name

@@ -1,5 +1,5 @@
 -- What holds of each merge.
-use Rattle.std.specs.Prelude.{◌≡◌, List, Result, Ok}
+use Rattle.std.specs.Prelude.{◌≡◌, List, Ok}
 use Rattle.std.specs.List.Sorted.{IsPermutation}
 use Rattle.ifs_interface.specs.Interface.{InterfaceRecord}
 use Rattle.ifs_edit.specs.Merged.{merged}

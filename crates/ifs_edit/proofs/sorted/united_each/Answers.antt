@@ -1,4 +1,4 @@
-use Rattle.std.proofs.Common.{◌≡◌, length, sym, ap, ◌∙◌, inr, arith}
+use Rattle.std.proofs.Common.{◌≡◌, length, sym, inr, arith}
 use Rattle.std.proofs.lemmas.Result.{err_from_is_err_and}
 use Rattle.ifs_edit.proofs.Binding.{meant_ok, meant_err}
 use Rattle.ifs_edit.proofs.Uniting.{run_length_within, united_more, united_stops, united_end}
