@@ -21,132 +21,95 @@ fn told(alloc: Global, words: &[String]) -> Result<Text, Memory> {
     }
 }
 
+// Lines, and the cause of each behind a bar.
+const LINES: &str = "\
+    |UnknownCommand()\n\
+    link F|UnknownCommand(link)\n\
+    Stub F|UnknownCommand(Stub)\n\
+    -- stub F|UnknownCommand(--)\n\
+    stub F|none\n\
+    stub F G F|none\n\
+    stub --output-tbd=o F|UnknownOption(--output-tbd=o)\n\
+    stub -o F|UnknownOption(-o)\n\
+    stub F -|UnknownOption(-)\n\
+    stub ---arch=x86 F|UnknownOption(---arch=x86)\n\
+    stub --Arch=x86 F|UnknownOption(--Arch=x86)\n\
+    stub --=x F|UnknownOption(--=x)\n\
+    stub --sonam=a --arch|UnknownOption(--sonam=a)\n\
+    stub --arch|MissingValue(--arch)\n\
+    stub F --soname|MissingValue(--soname)\n\
+    stub --soname=a --soname|MissingValue(--soname)\n\
+    stub --strip-size=yes F|UnwantedValue(--strip-size)\n\
+    stub --write-if-changed= F|UnwantedValue(--write-if-changed)\n\
+    stub --strip-size --strip-size=yes F|UnwantedValue(--strip-size)\n\
+    stub --strip-size yes|none\n\
+    stub --soname= F|BadValue(--soname)\n\
+    stub --soname  F|BadValue(--soname)\n\
+    stub --output-ifs=a\0b F|BadValue(--output-ifs)\n\
+    stub --output-elf \0 F|BadValue(--output-elf)\n\
+    stub --soname=a --soname= F|BadValue(--soname)\n\
+    stub --input-format=tbd F|BadValue(--input-format)\n\
+    stub --input-format=elf F|none\n\
+    stub --input-format iFs F|none\n\
+    stub --input-format=ELFF F|BadValue(--input-format)\n\
+    stub --arch=aarch64 F|none\n\
+    stub --arch=X86 F|none\n\
+    stub --arch=EM_62 F|none\n\
+    stub --arch=EM_062 F|BadValue(--arch)\n\
+    stub --arch=EM_65536 F|BadValue(--arch)\n\
+    stub --arch=arm64 F|BadValue(--arch)\n\
+    stub --bitwidth=32 F|none\n\
+    stub --bitwidth 64 F|none\n\
+    stub --bitwidth=16 F|BadValue(--bitwidth)\n\
+    stub --bitwidth=064 F|BadValue(--bitwidth)\n\
+    stub --endianness=little F|none\n\
+    stub --endianness=big F|none\n\
+    stub --endianness=Big F|BadValue(--endianness)\n\
+    stub --target=x86_64-unknown-linux-gnu F|none\n\
+    stub --target=x86_64 F|BadValue(--target)\n\
+    stub --target=x86_64-linux-gnux32 F|BadValue(--target)\n\
+    stub --target=z80-none F|BadValue(--target)\n\
+    stub --exclude=[ F|BadValue(--exclude)\n\
+    stub --exclude a\\ F|BadValue(--exclude)\n\
+    stub --exclude=a* --exclude=a* F|none\n\
+    stub --exclude=a --exclude=[] F|BadValue(--exclude)\n\
+    stub --soname=a --soname=a F|Repeated(--soname)\n\
+    stub --soname a --soname=b F|Repeated(--soname)\n\
+    stub --strip-size F --strip-size|Repeated(--strip-size)\n\
+    stub --soname=a --soname=b --arch=no F|Repeated(--soname)\n\
+    stub --arch=no --soname=b --sonam=b F|BadValue(--arch)\n\
+    stub --soname=a=b F|none\n\
+    stub --soname -- F|none\n\
+    stub --soname --arch F|none\n\
+    stub --soname --arch=x86|NoInput\n\
+    stub -- --arch -o|none\n\
+    stub -- F -- --no|none\n\
+    stub F --|none\n\
+    stub --strip-size -- --strip-size|none\n\
+    stub --target=arm-x --arch=arm F|Conflict(--target, --arch)\n\
+    stub --arch=arm --target=arm-x F|Conflict(--target, --arch)\n\
+    stub --bitwidth=32 --arch=arm --target=arm-x|Conflict(--target, --arch)\n\
+    stub --endianness=big --bitwidth=32 --target=arm-x|Conflict(--target, --bitwidth)\n\
+    stub --target=arm-x --endianness=little F|Conflict(--target, --endianness)\n\
+    stub --output-elf=o --output-ifs=o F|Conflict(--output-ifs, --output-elf)\n\
+    stub --output-ifs=- --output-elf - F|Conflict(--output-ifs, --output-elf)\n\
+    stub --output-ifs=o --output-elf=o --target=arm-x --bitwidth=32|Conflict(--target, --bitwidth)\n\
+    stub --output-ifs=o --output-elf=O F|none\n\
+    stub --arch=arm --bitwidth=32 --endianness=big F|none\n\
+    stub|NoInput\n\
+    stub --|NoInput\n\
+    stub --output-ifs=o --output-elf=o|Conflict(--output-ifs, --output-elf)\n\
+    stub --exclude=b* --strip-needed|NoInput\n\
+    stub\x20|none";
+
 #[test]
 fn causes_of_lines(rt: HostRuntime) -> Result<(), Fail> {
     let alloc = rt.alloc();
-    let rows: [(&str, &[u8]); 78] = [
-        ("", b"UnknownCommand()"),
-        ("link F", b"UnknownCommand(link)"),
-        ("Stub F", b"UnknownCommand(Stub)"),
-        ("-- stub F", b"UnknownCommand(--)"),
-        ("stub F", b"none"),
-        ("stub F G F", b"none"),
-        ("stub --output-tbd=o F", b"UnknownOption(--output-tbd=o)"),
-        ("stub -o F", b"UnknownOption(-o)"),
-        ("stub F -", b"UnknownOption(-)"),
-        ("stub ---arch=x86 F", b"UnknownOption(---arch=x86)"),
-        ("stub --Arch=x86 F", b"UnknownOption(--Arch=x86)"),
-        ("stub --=x F", b"UnknownOption(--=x)"),
-        ("stub --sonam=a --arch", b"UnknownOption(--sonam=a)"),
-        ("stub --arch", b"MissingValue(--arch)"),
-        ("stub F --soname", b"MissingValue(--soname)"),
-        ("stub --soname=a --soname", b"MissingValue(--soname)"),
-        ("stub --strip-size=yes F", b"UnwantedValue(--strip-size)"),
-        (
-            "stub --write-if-changed= F",
-            b"UnwantedValue(--write-if-changed)",
-        ),
-        (
-            "stub --strip-size --strip-size=yes F",
-            b"UnwantedValue(--strip-size)",
-        ),
-        ("stub --strip-size yes", b"none"),
-        ("stub --soname= F", b"BadValue(--soname)"),
-        ("stub --soname  F", b"BadValue(--soname)"),
-        ("stub --output-ifs=a\0b F", b"BadValue(--output-ifs)"),
-        ("stub --output-elf \0 F", b"BadValue(--output-elf)"),
-        ("stub --soname=a --soname= F", b"BadValue(--soname)"),
-        ("stub --input-format=tbd F", b"BadValue(--input-format)"),
-        ("stub --input-format=elf F", b"none"),
-        ("stub --input-format iFs F", b"none"),
-        ("stub --input-format=ELFF F", b"BadValue(--input-format)"),
-        ("stub --arch=aarch64 F", b"none"),
-        ("stub --arch=X86 F", b"none"),
-        ("stub --arch=EM_62 F", b"none"),
-        ("stub --arch=EM_062 F", b"BadValue(--arch)"),
-        ("stub --arch=EM_65536 F", b"BadValue(--arch)"),
-        ("stub --arch=arm64 F", b"BadValue(--arch)"),
-        ("stub --bitwidth=32 F", b"none"),
-        ("stub --bitwidth 64 F", b"none"),
-        ("stub --bitwidth=16 F", b"BadValue(--bitwidth)"),
-        ("stub --bitwidth=064 F", b"BadValue(--bitwidth)"),
-        ("stub --endianness=little F", b"none"),
-        ("stub --endianness=big F", b"none"),
-        ("stub --endianness=Big F", b"BadValue(--endianness)"),
-        ("stub --target=x86_64-unknown-linux-gnu F", b"none"),
-        ("stub --target=x86_64 F", b"BadValue(--target)"),
-        ("stub --target=x86_64-linux-gnux32 F", b"BadValue(--target)"),
-        ("stub --target=z80-none F", b"BadValue(--target)"),
-        ("stub --exclude=[ F", b"BadValue(--exclude)"),
-        ("stub --exclude a\\ F", b"BadValue(--exclude)"),
-        ("stub --exclude=a* --exclude=a* F", b"none"),
-        ("stub --exclude=a --exclude=[] F", b"BadValue(--exclude)"),
-        ("stub --soname=a --soname=a F", b"Repeated(--soname)"),
-        ("stub --soname a --soname=b F", b"Repeated(--soname)"),
-        (
-            "stub --strip-size F --strip-size",
-            b"Repeated(--strip-size)",
-        ),
-        (
-            "stub --soname=a --soname=b --arch=no F",
-            b"Repeated(--soname)",
-        ),
-        ("stub --arch=no --soname=b --sonam=b F", b"BadValue(--arch)"),
-        ("stub --soname=a=b F", b"none"),
-        ("stub --soname -- F", b"none"),
-        ("stub --soname --arch F", b"none"),
-        ("stub --soname --arch=x86", b"NoInput"),
-        ("stub -- --arch -o", b"none"),
-        ("stub -- F -- --no", b"none"),
-        ("stub F --", b"none"),
-        ("stub --strip-size -- --strip-size", b"none"),
-        (
-            "stub --target=arm-x --arch=arm F",
-            b"Conflict(--target, --arch)",
-        ),
-        (
-            "stub --arch=arm --target=arm-x F",
-            b"Conflict(--target, --arch)",
-        ),
-        (
-            "stub --bitwidth=32 --arch=arm --target=arm-x",
-            b"Conflict(--target, --arch)",
-        ),
-        (
-            "stub --endianness=big --bitwidth=32 --target=arm-x",
-            b"Conflict(--target, --bitwidth)",
-        ),
-        (
-            "stub --target=arm-x --endianness=little F",
-            b"Conflict(--target, --endianness)",
-        ),
-        (
-            "stub --output-elf=o --output-ifs=o F",
-            b"Conflict(--output-ifs, --output-elf)",
-        ),
-        (
-            "stub --output-ifs=- --output-elf - F",
-            b"Conflict(--output-ifs, --output-elf)",
-        ),
-        (
-            "stub --output-ifs=o --output-elf=o --target=arm-x --bitwidth=32",
-            b"Conflict(--target, --bitwidth)",
-        ),
-        ("stub --output-ifs=o --output-elf=O F", b"none"),
-        ("stub --arch=arm --bitwidth=32 --endianness=big F", b"none"),
-        ("stub", b"NoInput"),
-        ("stub --", b"NoInput"),
-        (
-            "stub --output-ifs=o --output-elf=o",
-            b"Conflict(--output-ifs, --output-elf)",
-        ),
-        ("stub --exclude=b* --strip-needed", b"NoInput"),
-        ("stub ", b"none"),
-    ];
-    for (line, cause) in rows {
+    for row in LINES.split('\n') {
+        let (line, cause) = row.split_once('|').ok_or("no bar")?;
         let words = words_in(alloc, line)?;
         let got = told(alloc, words.as_slice())?;
-        assert_eq!(rt; got.as_bytes(), cause, "{line}");
+        assert_eq!(rt; got.as_bytes(), cause.as_bytes(), "{line}");
     }
     let got = told(alloc, &[])?;
     assert_eq!(rt; got.as_bytes(), b"NoCommand".as_slice());
