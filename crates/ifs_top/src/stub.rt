@@ -1,11 +1,12 @@
-//! The command `stub`: a library's interface as a text and as a stub library.
+//! The command `stub`: the interface of a library or a text, as a text and as a stub library.
 
 ghost use Rattle.std.specs.Prelude.{◌≡◌, ◌<◌, ◌++◌, IfOk, OnOk, Result};
 ghost use Rattle.elf_dyn.specs.Library.{library_of};
 ghost use Rattle.ifs_interface.specs.Extracted.{interface_of};
 ghost use Rattle.ifs_bytes.specs.Outcome.{UnlessMemory};
 ghost use Rattle.ifs_text.specs.Printed.{printed_interface};
-ghost use Rattle.ifs_top.specs.Outcome.{by_library, output_at, stub_for, with_stub, reply_of};
+ghost use Rattle.ifs_text.specs.Text.{interface_of_text};
+ghost use Rattle.ifs_top.specs.Outcome.{by_bytes, by_text, output_at, stub_for, with_stub, reply_of};
 ghost use Rattle.ifs_top.specs.Request.{asked};
 ghost use Rattle.std.specs.Option.{option_copied};
 ghost use Rattle.ifs_top.specs.Steps.{DecidesFor};
@@ -18,7 +19,7 @@ use ifs_bytes::{List, Memory, Text};
 use ifs_interface::Interface;
 use ifs_outside::{Files, ReadCause};
 use ifs_stub::{StubCause, emit, extract};
-use ifs_text::print;
+use ifs_text::{TextCause, print, read};
 use std::alloc::Global;
 
 /// Why a run ended before it knew what to answer.
@@ -123,9 +124,27 @@ fn with_stub(alloc: Global, request: Request<'_>, interface: &Interface) -> Resu
     }
 }
 
+// The reply to a text, which is let go once it is read.
+fn by_text(alloc: Global, request: Request<'_>, text: Vec<u8>) -> Result<Reply, Memory>
+    ensures reply { IfOk result (λ reply. reply ≡ by_text (asked request.entry) (interface_of_text text.items)) }
+    ensures status { IfOk result (λ reply. reply.status < 3) }
+{
+    match read(alloc, &text) {
+        Ok(interface) => {
+            drop(text);
+            with_stub(alloc, request, &interface)
+        }
+        Err(TextCause::Memory) => Err(Memory),
+        Err(cause) => {
+            let cause = cause.printed(alloc)?;
+            fault(alloc, request.path, cause.as_bytes(), 1)
+        }
+    }
+}
+
 // The reply to the bytes of a file, which are let go before the interface is made.
-fn by_library(alloc: Global, request: Request<'_>, bytes: Vec<u8>) -> Result<Reply, Memory>
-    ensures reply { IfOk result (λ reply. reply ≡ by_library (asked request.entry) (library_of bytes.items)) }
+fn by_bytes(alloc: Global, request: Request<'_>, bytes: Vec<u8>) -> Result<Reply, Memory>
+    ensures reply { IfOk result (λ reply. reply ≡ by_bytes (asked request.entry) bytes.items (library_of bytes.items)) }
     ensures status { IfOk result (λ reply. reply.status < 3) }
 {
     match Library::parse(alloc, &bytes) {
@@ -135,6 +154,7 @@ fn by_library(alloc: Global, request: Request<'_>, bytes: Vec<u8>) -> Result<Rep
             with_stub(alloc, request, &interface)
         }
         Err(ElfCause::Memory) => Err(Memory),
+        Err(ElfCause::NotElf) => by_text(alloc, request, bytes),
         Err(cause) => fault(alloc, request.path, cause.printed(alloc)?.as_bytes(), 1),
     }
 }
@@ -146,7 +166,7 @@ pub fn stub<F: Files>(alloc: Global, request: Request<'_>, files: &mut F) -> Res
 {
     let path = request.path;
     match files.read(alloc, path, MOST_FILE_BYTES) {
-        Ok(bytes) => Ok(by_library(alloc, request, bytes)?),
+        Ok(bytes) => Ok(by_bytes(alloc, request, bytes)?),
         Err(ReadCause::Missing) => Ok(fault(alloc, path, b"missing", 3)?),
         Err(ReadCause::TooLarge) => Ok(fault(alloc, path, b"too large", 3)?),
         Err(ReadCause::Failed) => Err(Stop::Unread(fault_line(alloc, path, b"read failed")?)),

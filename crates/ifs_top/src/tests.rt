@@ -236,7 +236,9 @@ fn files_that_are_refused(rt: HostRuntime) -> Result<(), Fail> {
     // The soname has no end.
     let endless = changed(alloc, STUB, &[(266, b'x')])?;
     for (file, err) in [
-        (b"".as_slice(), b"error: F: NotElf\n".as_slice()),
+        (b"".as_slice(), b"error: F: NotIfs\n".as_slice()),
+        (b"--- x\n", b"error: F: Yaml(At(0, Shape))\n"),
+        (b"!<arch>\n", b"error: F: Archive\n"),
         (b"\x7fELF", b"error: F: Truncated(0)\n"),
         (&STUB[..839], b"error: F: Truncated(456)\n"),
         (endless.as_slice(), b"error: F: BadName(Dynamic(0))\n"),
@@ -284,7 +286,7 @@ fn reads_that_give_nothing(rt: HostRuntime) -> Result<(), Fail> {
         reads: &[1],
         ..holding(b"")
     };
-    let refused = line(1, b"error: F: NotElf\n");
+    let refused = line(1, b"error: F: NotIfs\n");
     assert!(rt; ends(alloc, &STUB_F, before, refused)?);
     Ok(())
 }
@@ -315,12 +317,12 @@ fn writes_that_fail(rt: HostRuntime) -> Result<(), Fail> {
     Ok(())
 }
 
-// Whether a run of the words with the fixture writes its stub to `o`, and this on standard output.
-fn writes_stub(alloc: Global, words: &[&str], printed: &[u8]) -> Result<bool, Memory> {
+// Whether a run of the words with a file writes the fixture's stub to `o`, and this on standard output.
+fn writes_stub(alloc: Global, words: &[&str], file: &[u8], printed: &[u8]) -> Result<bool, Memory> {
     let words = owned(alloc, words)?;
     let mut input = MemorySource::new(Vec::new(alloc), Vec::new(alloc));
     let mut files = MemoryFiles::new(alloc, Vec::new(alloc));
-    files.put(b"F", LIBRARY)?;
+    files.put(b"F", file)?;
     let mut out = MemorySink::new(alloc, Vec::new(alloc));
     let mut err = MemorySink::new(alloc, Vec::new(alloc));
     let status = run(alloc, &words, &mut input, &mut files, &mut out, &mut err);
@@ -342,21 +344,38 @@ fn stub_files(rt: HostRuntime) -> Result<(), Fail> {
     let mut text = Vec::from_slice(alloc, START)?;
     text.extend_from_slice(SYMBOLS)?;
     text.extend_from_slice(END)?;
-    assert!(rt; writes_stub(alloc, &["stub", "--output-elf=o", "F"], b"")?);
-    assert!(rt;
-        writes_stub(
-            alloc,
-            &["stub", "--output-elf=o", "--output-ifs=-", "F"],
-            &text
-        )?
-    );
-    assert!(rt;
-        writes_stub(
-            alloc,
-            &["stub", "--output-ifs=-", "--output-elf=o", "F"],
-            &text
-        )?
-    );
+    // The text of an interface stands for the library.
+    for file in [LIBRARY.as_slice(), &text] {
+        for (words, printed) in [
+            (["stub", "--output-elf=o", "F"].as_slice(), b"".as_slice()),
+            (&["stub", "--output-elf=o", "--output-ifs=-", "F"], &text),
+            (&["stub", "--output-ifs=-", "--output-elf=o", "F"], &text),
+        ] {
+            assert!(rt; writes_stub(alloc, words, file, printed)?);
+        }
+    }
+    Ok(())
+}
+
+#[test]
+fn texts_without_a_stub(rt: HostRuntime) -> Result<(), Fail> {
+    let words = ["stub", "--output-elf=-", "F"];
+    for (file, err) in [
+        (
+            b"--- !ifs-v1\nIfsVersion: 3\n".as_slice(),
+            b"error: stub: TargetIncomplete(Arch)\n".as_slice(),
+        ),
+        (
+            b"--- !ifs-v1\nIfsVersion: 3\nTarget: { Arch: x86_64, Endianness: little }\n",
+            b"error: stub: TargetIncomplete(BitWidth)\n",
+        ),
+        (
+            b"--- !ifs-v1\nIfsVersion: 3\nTarget: { Arch: i386, Endianness: little, BitWidth: 32 }\nSymbols: [ { Name: big, Type: Object, Size: 4294967296 } ]\n",
+            b"error: stub: SizeTooWide(big)\n",
+        ),
+    ] {
+        assert!(rt; ends(rt.alloc(), &words, holding(file), line(1, err))?);
+    }
     Ok(())
 }
 
