@@ -1,6 +1,7 @@
-pub mod Command
-pub mod Request
 pub mod Reply
+pub mod Refused
+pub mod Inputs
+pub mod Stub
 pub mod Outcome
 pub mod Outside
 pub mod Steps
