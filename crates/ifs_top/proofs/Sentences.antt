@@ -41,7 +41,10 @@ told_same : (files : Option FileMap) (reply : Reply) (cause : WordCause) → rep
 told_same None reply cause e = tt
 told_same (Some held) reply cause e = e
 
-same_cause : (one other : WordCause) → Err one ≡ Err other → one ≡ other
+abbrev refused_as : WordCause → Words
+refused_as cause = Err cause
+
+same_cause : (one other : WordCause) → refused_as one ≡ refused_as other → one ≡ other
 same_cause one other e = cc
 
 decided : (asked : Words) (reply : Reply) (files : Option FileMap) (c d : FileCounts) → Decides asked (Ok reply) files c d → Decided asked reply files c d
@@ -147,8 +150,8 @@ says_miss asked reply r left i out of files c d q err later f g h e three =
     let rose : Rose c.misses q.counts.misses = elim h.counts [ inl same ↦ absurd (omega (arith, same.0, status)) | inr miss ↦ subst (λ (n : ℕ). Rose c.misses n) (sym e.misses) miss.2 ] in
     (missed.0, missed.1, elim missed.2 [ inl missing ↦ inl (given.line ∙ ap (λ (x : Reply). append_known err x.line) missing.0, rose, missing.1) | inr large ↦ inr (inl (given.line ∙ ap (λ (x : Reply). append_known err x.line) large.0, rose, large.1)) ])
 
-three_rose : (old new : Outside) {asked : Words} → ((path : List ℕ) × IsInput asked path × SaysUnread path old new) → ReadRose old new
-three_rose old new said =
+three_rose : (old new : Outside) (asked : Words) → ((path : List ℕ) × IsInput asked path × SaysUnread path old new) → ReadRose old new
+three_rose old new asked said =
     elim said.2 [
       | inl missing ↦ inr (inr missing.1)
       | inr other ↦ elim other [ inl large ↦ inr (inr large.1) | inr failed ↦ inr (inl failed.1) ]
@@ -181,7 +184,7 @@ after_reply asked reply r left i out of files c d q err later f g h e =
       input_faults = refl;
       settled = λ low. told (λ (x : Reply). Gives x r old new) asked reply files h.reply_is (just (e.low (omega (arith, low))));
       complete = λ quiet not_five. told (λ (x : Reply). Gives x r old new) asked reply files h.reply_is (just (e.quiet quiet.err quiet.out (subst (λ (n : ℕ). q.counts.write_faults < raised n) (sym same_writes) quiet.writes) not_five));
-      three = λ three. three_rose old new (says_miss asked reply r left i out of files c d q err later f g h e three);
+      three = λ three. three_rose old new asked (says_miss asked reply r left i out of files c d q err later f g h e three);
       four = λ four. elim (e.four four) [ inl rose ↦ inl rose | inr rose ↦ inr (rose_after reply out of files c d q h.counts rose) ];
       at_least_three = λ grew. let miss = reads_grew reply r left i out of files c d q err later f g h.counts e grew in omega (arith, miss.0, e.least);
       at_least_four = λ grew. e.grew (omega (arith, grew, same_writes));

@@ -2,6 +2,7 @@ pub mod Reply
 pub mod Refused
 pub mod Inputs
 pub mod Stub
+pub mod Unchanged
 pub mod Outcome
 pub mod Outside
 pub mod Steps

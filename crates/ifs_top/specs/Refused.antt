@@ -30,6 +30,10 @@ Pushes (Ok _) old new meant = behind old meant ≡ Ok new
 Pushes (Err refusal) old new meant = behind old meant ≡ Err refusal
 
 -- the same of one, unless memory ran out
+abbrev pub with_one : {Y : Type 0} → List Y → Result Y Refusal → Result (List Y) Refusal
+with_one ys (Ok y) = Ok (ys ++ y ∷ [])
+with_one ys (Err refusal) = Err refusal
+
 abbrev pub PushesOne : {T Y : Type 0} → Result T Refusal → List Y → List Y → Result Y Refusal → Type 0
-PushesOne {_} {Y} (Ok _) old new meant = (y : Y) × (meant ≡ Ok y) × (new ≡ old ++ y ∷ [])
-PushesOne (Err refusal) old new meant = (refusal ≡ refusals.Memory) ⊎ (meant ≡ Err refusal)
+PushesOne (Ok _) old new meant = with_one old meant ≡ Ok new
+PushesOne (Err refusal) old new meant = (refusal ≡ refusals.Memory) ⊎ (with_one old meant ≡ Err refusal)

@@ -1,5 +1,5 @@
 -- What the steps of a run promise.
-use Rattle.std.specs.Prelude.{◌≡◌, ℕ, ◌<◌, ◌⊎◌, ⊤, ⊥, max, codes, List, [], ◌∷◌, ◌++◌, Option, Result, Ok, Err, IfSome, IfOk, IfErr}
+use Rattle.std.specs.Prelude.{◌≡◌, ℕ, ◌<◌, ◌⊎◌, ⊤, max, codes, List, [], ◌∷◌, ◌++◌, Option, Result, Ok, Err, IfSome, IfOk, IfErr}
 use Rattle.std.specs.Io.KnownBytes.{append_known}
 use Rattle.ifs_outside.specs.Count.{Rose}
 use Rattle.ifs_outside.specs.Files.{FileMap, reading}
@@ -84,6 +84,12 @@ ReadsInputs paths (Ok (Err refusals.Memory)) files old new = ⊥
 ReadsInputs paths (Err (stops.Unread line)) files old new =
     IsUnread paths (stops.Unread line) × Rose old.read_faults new.read_faults × (new ≡ record old { read_faults = new.read_faults })
 ReadsInputs paths (Err stops.Memory) files old new = new ≡ record old { read_faults = new.read_faults; misses = new.misses }
+
+-- a refusal for a cause is a reply too
+abbrev pub Settles : Result Reply Refusal → Result Reply Stop → Type 0
+Settles (Ok reply) result = result ≡ Ok reply
+Settles (Err (refusals.Fault reply)) result = result ≡ Ok reply
+Settles (Err refusals.Memory) result = result ≡ Err stops.Memory
 
 -- why a run stopped is said
 abbrev pub StopSays : Stop → ℕ → Option (List ℕ) → Option (List ℕ) → ℕ → ℕ → Type 0

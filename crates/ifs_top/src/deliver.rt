@@ -6,8 +6,8 @@ ghost use Rattle.ifs_top.specs.Outside.{holds, places};
 ghost use Rattle.ifs_top.specs.Reply.{fault_line};
 ghost use Rattle.ifs_top.specs.Steps.{WritesOne, WritesAll, Says, memory_line, Delivers, StopSays};
 
-use crate::reply::{Output, Reply, fault_line};
 use crate::refusal::Stop;
+use crate::reply::{Output, Reply, fault_line};
 use ifs_bytes::Memory;
 use ifs_outside::{Failed, Files, Sink, WriteCause, write_all};
 use std::alloc::Global;

@@ -10,7 +10,7 @@ ghost use Rattle.ifs_top.specs.declared.refusal.Stop.TheVariants as stops;
 ghost use Rattle.ifs_top.specs.Steps.{ReadsInputs};
 
 use crate::limits::MOST_FILE_BYTES;
-use crate::refusal::{Refusal, Stop, refusal};
+use crate::refusal::{Refusal, Stop, refuse};
 use crate::reply::{fault, fault_line};
 use elf_dyn::{ElfCause, Library};
 use elf_file::Elf;
@@ -151,7 +151,7 @@ fn library_in(alloc: Global, input: Input) -> Result<Interface, Refusal>
             Ok(interface_of(alloc, library)?)
         }
         Err(ElfCause::Memory) => Err(Refusal::Memory),
-        Err(cause) => Err(refusal(alloc, path.as_bytes(), cause.printed(alloc)?.as_bytes(), 1)),
+        Err(cause) => Err(refuse(alloc, path.as_bytes(), cause.printed(alloc)?.as_bytes(), 1)),
     }
 }
 
@@ -164,7 +164,7 @@ fn text_in(alloc: Global, input: &Input) -> Result<Interface, Refusal>
         Err(TextCause::Memory) => Err(Refusal::Memory),
         Err(cause) => {
             let text = cause.printed(alloc)?;
-            Err(refusal(alloc, input.path.as_bytes(), text.as_bytes(), 1))
+            Err(refuse(alloc, input.path.as_bytes(), text.as_bytes(), 1))
         }
     }
 }

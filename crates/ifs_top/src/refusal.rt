@@ -49,7 +49,7 @@ impl From<Memory> for Stop {
 }
 
 /// The refusal of a subject, or want of memory to say so.
-pub fn refusal(alloc: Global, subject: &[u8], text: &[u8], status: u8) -> Refusal
+pub fn refuse(alloc: Global, subject: &[u8], text: &[u8], status: u8) -> Refusal
     ensures { (result ≡ refusals.Memory) ⊎ (result ≡ refusals.Fault (fault subject.now text.now status)) }
 {
     match fault(alloc, subject, text, status) {

@@ -12,15 +12,16 @@ ghost use Rattle.ifs_text.specs.Printed.{printed_interface};
 ghost use Rattle.ifs_words.specs.Usable.{CanStub, IsUsable};
 ghost use Rattle.ifs_top.specs.declared.refusal.Refusal.TheVariants as refusals;
 ghost use Rattle.ifs_top.specs.Refused.{or_refused};
-ghost use Rattle.ifs_top.specs.Steps.{DecidesStub};
+ghost use Rattle.ifs_top.specs.Steps.{DecidesStub, Settles};
+ghost use Rattle.ifs_top.specs.Unchanged.{changes_nothing, gives_nothing, keeps_all, strips_nothing};
 ghost use Rattle.ifs_top.specs.Stub.{output_at, outputs_of, stub_for, stub_of_inputs, text_output, text_path};
 
 use crate::inputs::{Input, interfaces_in, read_inputs};
-use crate::refusal::{Refusal, Stop, refusal};
+use crate::refusal::{Refusal, Stop, refuse};
 use crate::reply::{Output, Reply};
 use ifs_bytes::{List, Memory, Text};
 use ifs_edit::{AdjustCause, AdjustOptions, MergeCause, Strip, adjust, merge, strip_target};
-use ifs_interface::Interface;
+use ifs_interface::{Interface, Target};
 use ifs_outside::Files;
 use ifs_stub::{StubCause, emit};
 use ifs_text::print;
@@ -37,9 +38,36 @@ fn merged(alloc: Global, interfaces: List<Interface>) -> Result<Interface, Refus
         Err(MergeCause::Memory) => Err(Refusal::Memory),
         Err(cause) => {
             let text = cause.printed(alloc)?;
-            Err(refusal(alloc, b"merge", text.as_bytes(), 1))
+            Err(refuse(alloc, b"merge", text.as_bytes(), 1))
         }
     }
+}
+
+// Whether options change nothing.
+fn changes_nothing(options: &AdjustOptions) -> bool
+    ensures { result ≡ changes_nothing options.now }
+{
+    gives_nothing(&options.given) && options.soname.is_none() && keeps_all(options)
+}
+
+// Whether nothing of a target is given.
+fn gives_nothing(given: &Target) -> bool
+    ensures { result ≡ gives_nothing given.now }
+{
+    given.triple.is_none()
+        && given.machine.is_none()
+        && given.order.is_none()
+        && given.width.is_none()
+}
+
+// Whether no symbol, needed library or size is left out.
+fn keeps_all(options: &AdjustOptions) -> bool
+    ensures { result ≡ keeps_all options.now }
+{
+    options.exclude.as_slice().is_empty()
+        && !options.strip_undefined
+        && !options.strip_needed
+        && !options.strip_size
 }
 
 // The interface under the options of the words.
@@ -51,12 +79,15 @@ fn adjusted(
     requires { IsUsable options.now }
     ensures { UnlessMemory refusals.Memory result (or_refused (codes "adjust") printed_adjust_cause (adjusted interface options.now)) }
 {
+    if changes_nothing(options) {
+        return Ok(interface);
+    }
     match adjust(alloc, &interface, options) {
         Ok(interface) => Ok(interface),
         Err(AdjustCause::Memory) => Err(Refusal::Memory),
         Err(cause) => {
             let text = cause.printed(alloc)?;
-            Err(refusal(alloc, b"adjust", text.as_bytes(), 1))
+            Err(refuse(alloc, b"adjust", text.as_bytes(), 1))
         }
     }
 }
@@ -87,7 +118,7 @@ fn stub_or_refused(
         Err(StubCause::Memory) => Err(Refusal::Memory),
         Err(cause) => {
             let text = cause.printed(alloc)?;
-            Err(refusal(alloc, b"stub", text.as_bytes(), 1))
+            Err(refuse(alloc, b"stub", text.as_bytes(), 1))
         }
     }
 }
@@ -104,7 +135,9 @@ fn stripped_text(alloc: Global, interface: &Interface, strip: &Strip) -> Result<
 }
 
 // Whether all of a target is left.
-fn strips_nothing(strip: &Strip) -> bool {
+fn strips_nothing(strip: &Strip) -> bool
+    ensures { result ≡ strips_nothing strip.now }
+{
     !(strip.arch || strip.width || strip.order || strip.target)
 }
 
@@ -179,11 +212,7 @@ fn outputs_of(
 
 // The reply to the inputs, which are let go.
 #[tactic(auto, unfolding(crate::specs::Stub::stub_of_inputs))]
-fn stub_of_inputs(
-    alloc: Global,
-    words: &StubWords,
-    inputs: List<Input>,
-) -> Result<Reply, Refusal>
+fn stub_of_inputs(alloc: Global, words: &StubWords, inputs: List<Input>) -> Result<Reply, Refusal>
     requires some { 0 < length inputs }
     requires usable { IsUsable words.now.adjust }
     ensures { UnlessMemory refusals.Memory result (stub_of_inputs words.now inputs) }
@@ -195,19 +224,25 @@ fn stub_of_inputs(
     Ok(outputs_of(alloc, words, &interface, stub)?)
 }
 
+// The reply, or that of a refusal.
+fn settled(reply: Result<Reply, Refusal>) -> Result<Reply, Stop>
+    ensures { Settles reply result }
+{
+    match reply {
+        Ok(reply) => Ok(reply),
+        Err(Refusal::Fault(reply)) => Ok(reply),
+        Err(Refusal::Memory) => Err(Stop::Memory),
+    }
+}
+
 /// The reply to the words of `stub`.
 pub fn stub<F: Files>(alloc: Global, words: &StubWords, files: &mut F) -> Result<Reply, Stop>
     requires { CanStub words.now }
     ensures answers { DecidesStub words.now result (F.map files.old) (F.counts files.old) (F.counts files.new) }
     ensures keeps { F.map files.new ≡ F.map files.old }
 {
-    let reply = match read_inputs(alloc, words.inputs.as_slice(), files)? {
-        Ok(inputs) => stub_of_inputs(alloc, words, inputs),
-        Err(refusal) => Err(refusal),
-    };
-    match reply {
-        Ok(reply) => Ok(reply),
-        Err(Refusal::Fault(reply)) => Ok(reply),
-        Err(Refusal::Memory) => Err(Stop::Memory),
+    match read_inputs(alloc, words.inputs.as_slice(), files)? {
+        Ok(inputs) => settled(stub_of_inputs(alloc, words, inputs)),
+        Err(refusal) => settled(Err(refusal)),
     }
 }
