@@ -4,3 +4,9 @@ pub mod Order
 pub mod Proper
 pub mod Said
 pub mod Seen
+pub mod Places
+pub mod Words
+pub mod RestOfLine
+pub mod LinesOfText
+pub mod PrintedTokens
+pub mod PrintedNodes
