@@ -8,5 +8,14 @@ pub mod Places
 pub mod Words
 pub mod RestOfLine
 pub mod LinesOfText
+pub mod DocumentOfLines
+pub mod FlowEntries
+pub mod FixedWords
+pub mod KindsOfLines
+pub mod TargetTokens
+pub mod SymbolTokens
 pub mod PrintedTokens
+pub mod FlowMaps
+pub mod RootEntries
 pub mod PrintedNodes
+pub mod PrintedDocument

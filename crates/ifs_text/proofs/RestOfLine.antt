@@ -1,11 +1,11 @@
 -- The tokens of the rest of a line, wherever it stands.
-use Rattle.std.proofs.Common.{◌≡◌, ℕ, zero, suc, ◌+◌, Bool, true, false, cond, not, ◌&&◌, ◌||◌, ◌==◌, List, [], ◌∷◌, ◌++◌, length, Some, None, refl, ap, sym, subst, ◌∙◌, append-nil}
+use Rattle.std.proofs.Common.{◌≡◌, ℕ, zero, suc, ◌+◌, Bool, true, false, cond, not, ◌&&◌, List, [], ◌∷◌, ◌++◌, length, Some, None, refl, ap, sym, subst, ◌∙◌, append-nil}
 use Rattle.std.specs.List.{list_all}
 use Rattle.yaml_tokens.specs.Bytes.{is_blank, begins, blanks, is_quote, is_open, is_close, is_flow, is_left_out}
 use Rattle.yaml_tokens.specs.Scalars.{gap, is_dubious, is_indicator, begins_plain, ends_plain, plain_size}
-use Rattle.yaml_tokens.specs.Pieces.{PieceRecord, in_flow, parts, parts_quoted, begins_item, leaves_out, single_front, bare_front, front, cut, after, is_dash_kind}
+use Rattle.yaml_tokens.specs.Pieces.{in_flow, parts, parts_quoted, begins_item, leaves_out, single_front, bare_front, front, cut, after}
 use Rattle.yaml_tokens.specs.Places.{begins_piece}
-use Rattle.yaml_tokens.specs.Faults.{Level as Same, step_of, own_fault}
+use Rattle.yaml_tokens.specs.Faults.{own_fault}
 use Rattle.yaml_tokens.specs.Tokens.{token_of}
 use Rattle.yaml_tokens.specs.declared.front.Front.{Front}
 use Rattle.yaml_tokens.specs.declared.piece.Before.{Before}
@@ -44,12 +44,12 @@ reads_spaces flow (suc n) z ts r = reads_blank flow (spaces n z) ts (reads_space
 pub reads_scalar : (flow : Bool) (s z : List ℕ) (ts : List Token) → plain_size flow z ≡ 0 → Reads flow z ts → Reads flow (printed_scalar s ++ z) (token.Scalar s ∷ ts)
 reads_scalar flow s z ts e r = record {
   reads = λ fresh before at column stands.
-    let p = printed_is_one_token s z fresh before at column (ap (λ f. plain_size f z) (stands_flow flow before stands) ∙ e) in
-    let q = printed_piece s p.0 at column in
-    let ps = cut zero false (after before p.0) at (column + length (printed_scalar s)) z in
-    subst (λ w. Fine flow before w (token.Scalar s ∷ ts)) (sym p.1.pieces)
-    (fine_piece flow before q (token.Scalar s) ps ts p.1.token refl p.1.good p.1.level
-    (r.reads false (after before p.0) at (column + length (printed_scalar s)) (stands_behind flow before q (token.Scalar s) stands p.1.token p.1.level)));
+      let p = printed_is_one_token s z fresh before at column (ap (λ f. plain_size f z) (stands_flow flow before stands) ∙ e) in
+      let q = printed_piece s p.0 at column in
+      let ps = cut zero false (after before p.0) at (column + length (printed_scalar s)) z in
+      subst (λ w. Fine flow before w (token.Scalar s ∷ ts)) (sym p.1.pieces)
+      (fine_piece flow before q (token.Scalar s) ps ts p.1.token refl p.1.good p.1.level
+      (r.reads false (after before p.0) at (column + length (printed_scalar s)) (stands_behind flow before q (token.Scalar s) stands p.1.token p.1.level)));
 }
 
 pub reads_last_scalar : (s : List ℕ) → Reads false (printed_scalar s) (token.Scalar s ∷ [])
@@ -64,16 +64,16 @@ pub reads_word : (flow : Bool) (s z : List ℕ) (ts : List Token) → is_word s 
 reads_word flow [] z ts h e r = absurd (cc)
 reads_word flow (b ∷ text) z ts h e r = record {
   reads = λ fresh before at column stands.
-    let p = both (begins_word b) (list_all is_plain_byte text) h in
-    let word = begins_is_word b p.0 in
-    let begins_here = begins_at fresh b (text ++ z) (word_is_no_blank b word) (word_is_no_hash b word) in
-    let ends_here : plain_size (in_flow before) z ≡ 0 = ap (λ f. plain_size f z) (stands_flow flow before stands) ∙ e in
-    let q = piece_at at column kind.Plain (b ∷ text) in
-    let ps = cut zero false (after before kind.Plain) at (column + length (b ∷ text)) z in
-    let t = plain_token (b ∷ text) at column in
-    subst (λ w. Fine flow before w (token.Scalar (b ∷ text) ∷ ts)) (sym (cut_sized fresh before at column b text z kind.Plain begins_here (word_front before b text z p.0 p.1 ends_here) refl))
-    (fine_piece flow before q (token.Scalar (b ∷ text)) ps ts t.0 refl t.1 refl
-    (r.reads false (after before kind.Plain) at (column + length (b ∷ text)) (stands_behind flow before q (token.Scalar (b ∷ text)) stands t.0 refl)));
+      let p = both (begins_word b) (list_all is_plain_byte text) h in
+      let word = begins_is_word b p.0 in
+      let begins_here = begins_at fresh b (text ++ z) (word_is_no_blank b word) (word_is_no_hash b word) in
+      let ends_here : plain_size (in_flow before) z ≡ 0 = ap (λ f. plain_size f z) (stands_flow flow before stands) ∙ e in
+      let q = piece_at at column kind.Plain (b ∷ text) in
+      let ps = cut zero false (after before kind.Plain) at (column + length (b ∷ text)) z in
+      let t = plain_token (b ∷ text) at column in
+      subst (λ w. Fine flow before w (token.Scalar (b ∷ text) ∷ ts)) (sym (cut_sized fresh before at column b text z kind.Plain begins_here (word_front before b text z p.0 p.1 ends_here) refl))
+      (fine_piece flow before q (token.Scalar (b ∷ text)) ps ts t.0 refl t.1 refl
+      (r.reads false (after before kind.Plain) at (column + length (b ∷ text)) (stands_behind flow before q (token.Scalar (b ∷ text)) stands t.0 refl)));
 }
 
 -- a colon
@@ -110,11 +110,11 @@ mark_token at column = (refl, refl, refl, refl)
 pub reads_colon : (flow : Bool) (z : List ℕ) (ts : List Token) → ((f : Bool) → gap f z ≡ true) → begins is_open z ≡ false → Reads flow z ts → Reads flow (58 ∷ z) (token.Colon ∷ ts)
 reads_colon flow z ts e h r = record {
   reads = λ fresh before at column stands.
-    let q = piece_at at column kind.Colon (58 ∷ []) in
-    let ps = cut zero false (after before kind.Colon) at (column + 1) z in
-    let t = mark_token at column in
-    subst (λ w. Fine flow before w (token.Colon ∷ ts)) (sym (cut_sized fresh before at column 58 [] z kind.Colon (marks_begin fresh z).0 (colon_front before z (e (in_flow before)) h) refl))
-    (fine_piece flow before q token.Colon ps ts t.0 refl t.1 refl (r.reads false (after before kind.Colon) at (column + 1) (stands_behind flow before q token.Colon stands t.0 refl)));
+      let q = piece_at at column kind.Colon (58 ∷ []) in
+      let ps = cut zero false (after before kind.Colon) at (column + 1) z in
+      let t = mark_token at column in
+      subst (λ w. Fine flow before w (token.Colon ∷ ts)) (sym (cut_sized fresh before at column 58 [] z kind.Colon (marks_begin fresh z).0 (colon_front before z (e (in_flow before)) h) refl))
+      (fine_piece flow before q token.Colon ps ts t.0 refl t.1 refl (r.reads false (after before kind.Colon) at (column + 1) (stands_behind flow before q token.Colon stands t.0 refl)));
 }
 
 blank_gap : (z : List ℕ) (f : Bool) → gap f (32 ∷ z) ≡ true
@@ -151,11 +151,11 @@ comma_front before z = refl
 pub reads_comma : (z : List ℕ) (ts : List Token) → Reads true z ts → Reads true (44 ∷ z) (token.Comma ∷ ts)
 reads_comma z ts r = record {
   reads = λ fresh before at column stands.
-    let q = piece_at at column kind.Other (44 ∷ []) in
-    let ps = cut zero false (after before kind.Other) at (column + 1) z in
-    let t = mark_token at column in
-    subst (λ w. Fine true before w (token.Comma ∷ ts)) (sym (cut_sized fresh before at column 44 [] z kind.Other (marks_begin fresh z).1 (comma_front before z) refl))
-    (fine_piece true before q token.Comma ps ts t.2 refl t.3 refl (r.reads false (after before kind.Other) at (column + 1) (stands_behind true before q token.Comma stands t.2 refl)));
+      let q = piece_at at column kind.Other (44 ∷ []) in
+      let ps = cut zero false (after before kind.Other) at (column + 1) z in
+      let t = mark_token at column in
+      subst (λ w. Fine true before w (token.Comma ∷ ts)) (sym (cut_sized fresh before at column 44 [] z kind.Other (marks_begin fresh z).1 (comma_front before z) refl))
+      (fine_piece true before q token.Comma ps ts t.2 refl t.3 refl (r.reads false (after before kind.Other) at (column + 1) (stands_behind true before q token.Comma stands t.2 refl)));
 }
 
 pub comma_stops : (z : List ℕ) → plain_size true (44 ∷ z) ≡ 0
@@ -176,18 +176,18 @@ opens : (b : ℕ) (z : List ℕ) (t : Token) (ts : List Token) → ((fresh : Boo
     → ((at column : ℕ) → token_of (piece_at at column kind.Open (b ∷ [])) ≡ Some t) → begins_part t ≡ false → Reads true z ts → Reads false (b ∷ z) (t ∷ ts)
 opens b z t ts here is e inner r = record {
   reads = λ fresh before at column stands.
-    subst (λ w. Fine false before w (t ∷ ts)) (sym (cut_sized fresh before at column b [] z kind.Open (here fresh) (is before) refl))
-    (fine_open before at column (b ∷ []) t (cut zero false (after before kind.Open) at (column + 1) z) ts (e at column) inner
-    (r.reads false (after before kind.Open) at (column + 1) (stands_opened before stands)));
+      subst (λ w. Fine false before w (t ∷ ts)) (sym (cut_sized fresh before at column b [] z kind.Open (here fresh) (is before) refl))
+      (fine_open before at column (b ∷ []) t (cut zero false (after before kind.Open) at (column + 1) z) ts (e at column) inner
+      (r.reads false (after before kind.Open) at (column + 1) (stands_opened before stands)));
 }
 
 closes : (b : ℕ) (z : List ℕ) (t : Token) (ts : List Token) → ((fresh : Bool) → begins_piece fresh (b ∷ z) ≡ true) → ((before : Before) → front before b z ≡ single kind.Close)
     → ((at column : ℕ) → token_of (piece_at at column kind.Close (b ∷ [])) ≡ Some t) → begins_part t ≡ false → Reads false z ts → Reads true (b ∷ z) (t ∷ ts)
 closes b z t ts here is e inner r = record {
   reads = λ fresh before at column stands.
-    subst (λ w. Fine true before w (t ∷ ts)) (sym (cut_sized fresh before at column b [] z kind.Close (here fresh) (is before) refl))
-    (fine_close before at column (b ∷ []) t (cut zero false (after before kind.Close) at (column + 1) z) ts (e at column) inner
-    (r.reads false (after before kind.Close) at (column + 1) (stands_closed before stands)));
+      subst (λ w. Fine true before w (t ∷ ts)) (sym (cut_sized fresh before at column b [] z kind.Close (here fresh) (is before) refl))
+      (fine_close before at column (b ∷ []) t (cut zero false (after before kind.Close) at (column + 1) z) ts (e at column) inner
+      (r.reads false (after before kind.Close) at (column + 1) (stands_closed before stands)));
 }
 
 pub reads_open : (z : List ℕ) (ts : List Token) → Reads true z ts → Reads false (123 ∷ z) (token.OpenMap ∷ ts)

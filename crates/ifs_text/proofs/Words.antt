@@ -1,9 +1,9 @@
 -- A word is one plain scalar: a letter, `_` or a digit, and bytes that stand in plain scalars.
-use Rattle.std.proofs.Common.{◌≡◌, ℕ, zero, suc, ◌+◌, ◌-◌, ◌/◌, ◌%◌, ◌<◌, ◌≤◌, Bool, true, false, cond, ◌&&◌, ◌||◌, ◌==◌, nat_lt, nat_le, List, [], ◌∷◌, ◌++◌, length, refl, ap, sym, subst, ◌∙◌, arith, decimal}
+use Rattle.std.proofs.Common.{◌≡◌, ℕ, zero, suc, ◌+◌, ◌-◌, ◌/◌, ◌%◌, ◌<◌, Bool, true, false, cond, ◌&&◌, ◌||◌, ◌==◌, nat_lt, nat_le, List, [], ◌∷◌, ◌++◌, length, refl, ap, subst, ◌∙◌, arith, decimal}
 use Rattle.std.proofs.lemmas.Bool.Decides.{nat_tests}
-use Rattle.std.specs.List.{list_any, list_all}
+use Rattle.std.specs.List.{list_all}
 use Rattle.std.specs.Fmt.{digits, digits_onto, digit_glyph}
-use Rattle.yaml_tokens.specs.Bytes.{is_blank, is_quote, is_open, is_close, is_flow, is_left_out}
+use Rattle.yaml_tokens.specs.Bytes.{is_quote, is_open, is_close, is_flow, is_left_out}
 use Rattle.yaml_tokens.specs.Scalars.{is_dubious, is_indicator, begins_plain, plain_size}
 use Rattle.yaml_tokens.specs.Pieces.{in_flow, parts_quoted, bare_front, front}
 use Rattle.yaml_tokens.specs.declared.front.Front.{Front}

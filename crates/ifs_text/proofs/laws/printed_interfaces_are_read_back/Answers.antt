@@ -1,4 +1,4 @@
-use Rattle.ifs_text.proofs.PrintedNodes.{printed_is_its_document}
+use Rattle.ifs_text.proofs.PrintedDocument.{printed_is_its_document}
 use Rattle.ifs_text.proofs.laws.printed_interfaces_are_read_back.Goals as goal
 
 pub returns : goal.returns
