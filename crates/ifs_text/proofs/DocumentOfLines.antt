@@ -21,6 +21,7 @@ use Rattle.yaml_profile.proofs.InTexts.{no_lf, calm_line, calm_byte, lf_is_good,
 use Rattle.ifs_text.proofs.Places.{Stands}
 use Rattle.ifs_text.proofs.LinesOfText.{pieces_by, AllRead, texts, texts_both, Section, none, more}
 
+-- the offset behind a line and its line feed
 abbrev pub behind : ℕ → List ℕ → ℕ
 behind at [] = at + 1
 behind at (b ∷ z) = behind (at + 1) z

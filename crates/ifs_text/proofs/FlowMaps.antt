@@ -1,4 +1,4 @@
--- The maps in flow of the tokens of their entries.
+-- Maps in flow, by the tokens of their entries.
 use Rattle.std.proofs.Common.{ℕ, zero, suc, List, [], ◌∷◌, ◌++◌, inl, inr, sym, subst, append_assoc, append-nil}
 use Rattle.yaml_tokens.specs.declared.token.Token.{Token}
 use Rattle.yaml_tokens.specs.declared.token.Token.TheVariants as token
@@ -13,7 +13,7 @@ pub flow_scalar : (depth : ℕ) (text : List ℕ) (rest : List Token) → Flow d
 flow_scalar zero text rest = scalar
 flow_scalar (suc depth) text rest = inl scalar
 
--- behind an entry of a map stand these entries and its end
+-- behind an entry of a map these tokens are the entries that follow it, and the map's end
 pub record Further (depth : ℕ) (us : List Token) (es : List Entry) (rest : List Token) : Type 0 where
   pub further : (ts : List Token) (x : Entry) → FlowEntry (Flow depth) ts x us → Listed (FlowEntry (Flow depth)) token.CloseMap ts (x ∷ es) rest
 
@@ -23,7 +23,7 @@ closed depth rest = record { further = λ ts x h. last h }
 flow_pair : (depth : ℕ) (key value : List ℕ) (rest : List Token) → FlowEntry (Flow depth) (token.Scalar key ∷ token.Colon ∷ token.Scalar value ∷ rest) (scalar_entry key value) rest
 flow_pair depth key value rest = whole (flow_scalar depth value rest)
 
--- such tokens put these entries before what follows
+-- these tokens are entries of a map, whatever entries stand behind them
 pub record Puts (ts : List Token) (es : List Entry) : Type 0 where
   pub puts : (depth : ℕ) (us : List Token) (fs : List Entry) (rest : List Token) → Further depth us fs rest → Further depth (ts ++ us) (es ++ fs) rest
 
@@ -43,7 +43,7 @@ puts_both ts us es fs p q = record {
       (subst (λ w. Further depth (ts ++ (us ++ vs)) w rest) (sym (append_assoc es fs gs)) (p.puts depth (us ++ vs) (fs ++ gs) rest (q.puts depth vs gs rest f)));
 }
 
--- a map of one entry and such ones
+-- a map of one entry and of those that such tokens are
 pub map_node : (depth : ℕ) (key value : List ℕ) (ts : List Token) (es : List Entry) (rest : List Token) → Puts ts es
     → Flow (suc depth) (token.OpenMap ∷ token.Scalar key ∷ token.Colon ∷ token.Scalar value ∷ ((ts ++ token.CloseMap ∷ []) ++ rest)) (node.Map (scalar_entry key value ∷ es)) rest
 map_node depth key value ts es rest p =

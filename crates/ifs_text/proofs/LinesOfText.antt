@@ -74,6 +74,7 @@ level_line z ts b calm e r = body_line z [] 0 ts b calm (ap (λ n. take n z) e) 
 
 -- ---- lines
 
+-- lines with these tokens
 pub data AllRead : List (List ℕ) → List Token → Type 0 where
   none : AllRead [] []
   more : {z : List ℕ} {zs : List (List ℕ)} {ts us : List Token} → LineReads z ts → AllRead zs us → AllRead (z ∷ zs) (ts ++ us)

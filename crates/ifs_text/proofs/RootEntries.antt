@@ -13,7 +13,7 @@ use Rattle.ifs_text.proofs.FlowMaps.{flow_scalar}
 abbrev RootEntry : List Token → Entry → List Token → Type 0
 RootEntry = BlockEntry (Value (Flow 15) (Block 15) true 0)
 
--- behind an entry of the root stand these entries, and no more
+-- behind an entry of the root these tokens are the entries that follow it, up to the end
 pub record Follows (us : List Token) (es : List Entry) : Type 0 where
   pub follows : (ts : List Token) (x : Entry) → RootEntry ts x us → Lined RootEntry (map_goes_on 0) ts (x ∷ es) []
 
