@@ -38,7 +38,7 @@ no_break b rest h =
     let thirteen : (b == 13) ≡ false = grind (arith, nat_tests) in
     ap (λ t. t || ((b == 13) && begins (λ c. c == 10) rest)) ten ∙ ap (λ t. t && begins (λ c. c == 10) rest) thirteen
 
-no_lf : (b : ℕ) → nat_lt b 32 ≡ false → (b == 10) ≡ false
+pub no_lf : (b : ℕ) → nat_lt b 32 ≡ false → (b == 10) ≡ false
 no_lf b h = grind (arith, nat_tests)
 
 ends_there : (rest : List ℕ) → line_ends 10 rest ≡ true
@@ -52,7 +52,7 @@ calm_size (b ∷ z) rest h =
     let more : line_size (z ++ 10 ∷ rest) ≡ length z = calm_size z rest p.1 in
     ap (λ t. cond t 0 (1 + line_size (z ++ 10 ∷ rest))) (no_break b (z ++ 10 ∷ rest) p.0) ∙ (let s : 1 + line_size (z ++ 10 ∷ rest) ≡ suc (length z) = omega arith in s)
 
-calm_line : (z rest : List ℕ) → loud z ≡ false → line (z ++ 10 ∷ rest) ≡ z
+pub calm_line : (z rest : List ℕ) → loud z ≡ false → line (z ++ 10 ∷ rest) ≡ z
 calm_line z rest h = ap (λ n. take n (z ++ 10 ∷ rest)) (calm_size z rest h) ∙ take-append_seam z (10 ∷ rest)
 
 calm_tail : (at : ℕ) (z : List ℕ) → loud z ≡ false → lines false at (z ++ 10 ∷ []) ≡ []
@@ -67,13 +67,13 @@ calm_lines at b z h =
     ap (λ w. record { at = at; bytes = w } ∷ lines (b == 10) (at + 1) (z ++ 10 ∷ [])) (calm_line (b ∷ z) [] h)
     ∙ ap (λ w. record { at = at; bytes = b ∷ z } ∷ w) (ap (λ t. lines t (at + 1) (z ++ 10 ∷ [])) (no_lf b p.0) ∙ calm_tail (at + 1) z p.1)
 
-calm_byte : (b : ℕ) (rest : List ℕ) → nat_lt b 32 ≡ false → is_bad b rest ≡ false
+pub calm_byte : (b : ℕ) (rest : List ℕ) → nat_lt b 32 ≡ false → is_bad b rest ≡ false
 unfolding is_bad
 calm_byte b rest h =
     let thirteen : (b == 13) ≡ false = grind (arith, nat_tests) in
     ap (λ t. cond t (not (begins (λ c. c == 10) rest)) (nat_lt b 32 && not ((b == 9) || (b == 10)))) thirteen ∙ ap (λ t. t && not ((b == 9) || (b == 10))) h
 
-lf_is_good : (rest : List ℕ) → is_bad 10 rest ≡ false
+pub lf_is_good : (rest : List ℕ) → is_bad 10 rest ≡ false
 unfolding is_bad
 lf_is_good rest = refl
 
@@ -98,7 +98,7 @@ text_lines b z h =
     let rest = (b ∷ z) ++ 10 ∷ [] in
     ap (λ w. record { at = 0; bytes = w } ∷ lines true 4 rest) (calm_line dashes rest refl) ∙ ap (λ w. record { at = 0; bytes = dashes } ∷ w) (calm_lines 4 b z h)
 
-good_step : (at b : ℕ) (rest : List ℕ) → is_bad b rest ≡ false → bad_byte at (b ∷ rest) ≡ bad_byte (at + 1) rest
+pub good_step : (at b : ℕ) (rest : List ℕ) → is_bad b rest ≡ false → bad_byte at (b ∷ rest) ≡ bad_byte (at + 1) rest
 good_step at b rest h = ap (λ t. cond t (Some (fault_at at BadByte)) (bad_byte (at + 1) rest)) h
 
 text_good : (z : List ℕ) → loud z ≡ false → bad_byte 0 (in_document z) ≡ None
@@ -147,11 +147,11 @@ read_text b z ps ts h k e cuts good tokens =
     ∙ ap (λ w. documents_of (parts w)) tokens
 
 -- nothing is wrong with its pieces
-first_of_none : first_of None None ≡ None
+pub first_of_none : first_of None None ≡ None
 unfolding first_of
 first_of_none = refl
 
-least_none : (p : PieceRecord) (ps : List PieceRecord) → own_fault p ≡ None → least ps ≡ None → least (p ∷ ps) ≡ None
+pub least_none : (p : PieceRecord) (ps : List PieceRecord) → own_fault p ≡ None → least ps ≡ None → least (p ∷ ps) ≡ None
 least_none p ps h g = ap (λ o. first_of o (least ps)) h ∙ ap (first_of None) g ∙ first_of_none
 
 abbrev calm_kind : Kind → Bool
@@ -186,7 +186,7 @@ fault_none ps h g =
     let l : least (all_pieces ps) ≡ None = least_none (piece 0 0 kind.Begin dashes) (piece 4 0 kind.Line [] ∷ ps) (own_calm (piece 0 0 kind.Begin dashes) refl) (least_none (piece 4 0 kind.Line []) ps own_line h) in
     ap (λ o. first_of o (unclosed (all_pieces ps))) l ∙ ap (first_of None) g ∙ first_of_none
 
-level_passes : (p : PieceRecord) (ps : List PieceRecord) → step_of p.kind ≡ Same → unclosed (p ∷ ps) ≡ unclosed ps
+pub level_passes : (p : PieceRecord) (ps : List PieceRecord) → step_of p.kind ≡ Same → unclosed (p ∷ ps) ≡ unclosed ps
 level_passes p ps h =
     ap (λ s. elim s [ Up ↦ cond (stays_open 1 ps) (Some (fault_at (offset p) NotClosed)) (unclosed ps) | Down ↦ unclosed ps | Same ↦ unclosed ps | Fresh ↦ unclosed ps ]) h
 
@@ -206,7 +206,7 @@ unblank_plain (b ∷ text) h =
     let q = both (begins_printed b) (list_all is_plain_byte text) p.0 in
     ap (λ t. cond t (1 + blanks text) 0) (word_is_no_blank b (first_is_word b q.0))
 
-printed_starts : (s : List ℕ) → blanks (printed_scalar s) ≡ 0
+pub printed_starts : (s : List ℕ) → blanks (printed_scalar s) ≡ 0
 printed_starts s = by_plain (is_plain s) refl
   where
     by_control : (u : Bool) → blanks (cond u (double_quoted s) (single_quoted s)) ≡ 0

@@ -24,11 +24,11 @@ use Rattle.yaml_profile.proofs.PlainBack.{plain_stands}
 use Rattle.yaml_profile.proofs.SingleBack.{single_reads, single_text}
 use Rattle.yaml_profile.proofs.DoubleBack.{double_reads, double_text, double_is_good}
 
-abbrev piece_at : ℕ → ℕ → Kind → List ℕ → PieceRecord
+abbrev pub piece_at : ℕ → ℕ → Kind → List ℕ → PieceRecord
 piece_at at column kind bytes = record { line = at; column = column; kind = kind; bytes = bytes }
 
 -- a piece whose size is known is cut
-cut_sized : (fresh : Bool) (before : Before) (at column b : ℕ) (text rest : List ℕ) (kind : Kind) → begins_piece fresh (b ∷ (text ++ rest)) ≡ true
+pub cut_sized : (fresh : Bool) (before : Before) (at column b : ℕ) (text rest : List ℕ) (kind : Kind) → begins_piece fresh (b ∷ (text ++ rest)) ≡ true
     → front before b (text ++ rest) ≡ record { kind = kind; size = length text } → is_dash_kind kind ≡ false
     → cut zero fresh before at column (b ∷ (text ++ rest)) ≡ piece_at at column kind (b ∷ text) ∷ cut zero false (after before kind) at (column + length (b ∷ text)) rest
 cut_sized fresh before at column b text rest kind here is dash =
@@ -42,7 +42,7 @@ cut_sized fresh before at column b text rest kind here is dash =
     ∙ ap (λ t. piece_at at column kind (b ∷ text) ∷ cut zero (t && nat_lt 0 (length text)) (after before kind) at (column + (1 + length text)) rest) dash
     ∙ ap (λ k. piece_at at column kind (b ∷ text) ∷ cut zero false (after before kind) at k rest) n
 
-begins_at : (fresh : Bool) (b : ℕ) (rest : List ℕ) → is_blank b ≡ false → (b == 35) ≡ false → begins_piece fresh (b ∷ rest) ≡ true
+pub begins_at : (fresh : Bool) (b : ℕ) (rest : List ℕ) → is_blank b ≡ false → (b == 35) ≡ false → begins_piece fresh (b ∷ rest) ≡ true
 begins_at fresh b rest blank hash = ap (λ t. not t && not ((b == 35) && fresh)) blank ∙ ap (λ t. not (t && fresh)) hash
 
 -- what follows is no quote
