@@ -4,3 +4,4 @@ pub mod Order
 pub mod Proper
 pub mod Said
 pub mod Seen
+pub mod DocumentBack

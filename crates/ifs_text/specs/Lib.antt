@@ -7,3 +7,4 @@ pub mod Values
 pub mod Faults
 pub mod Parts
 pub mod Text
+pub mod DocumentBack

@@ -6,6 +6,7 @@
 
 mod cause;
 mod fault;
+mod laws;
 mod maps;
 mod printed;
 mod reading;
@@ -16,6 +17,7 @@ mod target;
 mod values;
 
 pub use cause::TextCause;
+pub use laws::documents_are_interfaces;
 pub use printed::print;
 pub use reading::read;
 
