@@ -1,5 +1,5 @@
 -- The root map of the document has no fault, and says the interface.
-use Rattle.std.proofs.Common.{◌≡◌, ℕ, ◌<◌, ◌^◌, Bool, true, false, if◌then◌else◌, List, [], ◌∷◌, ◌++◌, map, codes, Option, Some, None, Ok, refl, sym, ap, ◌∙◌, subst}
+use Rattle.std.proofs.Common.{◌≡◌, ℕ, true, if◌then◌else◌, List, [], ◌∷◌, ◌++◌, map, codes, Option, Some, None, Ok, refl, sym, ap, ◌∙◌, subst}
 use Rattle.std.specs.Prelude.{is_some, unwrap_or, option_map, option_and_then}
 use Rattle.std.specs.List.{list_all, filter_map}
 use Rattle.std.specs.Option.{option_or}
@@ -7,15 +7,14 @@ use Rattle.std.specs.List.Sorted.{IsPermutation}
 use Rattle.std.proofs.lemmas.Bool.{and_parts, and_from}
 use Rattle.std.proofs.lemmas.List.Sorted.{IsPermutation-refl}
 use Rattle.ifs_interface.specs.declared.symbol.Symbol.{Symbol}
-use Rattle.ifs_interface.specs.declared.target.Target.{Target}
-use Rattle.ifs_interface.specs.Interface.{InterfaceRecord, IsInterface, IsOf, is_proper_name, is_proper_soname, names_of}
+use Rattle.ifs_interface.specs.Interface.{InterfaceRecord, IsInterface, IsOf, is_proper_name, is_proper_soname}
 use Rattle.yaml_nodes.specs.declared.node.Node.{Node}
 use Rattle.yaml_nodes.specs.declared.node.Node.TheVariants as node
 use Rattle.yaml_nodes.specs.declared.node.Entry.{Entry}
 use Rattle.yaml_nodes.specs.Nodes.{entry, items_of}
 use Rattle.ifs_text.specs.declared.cause.TextCause.TheVariants.{BadVersion}
 use Rattle.ifs_text.specs.declared.maps.MapKind.TheVariants as kinds
-use Rattle.ifs_text.specs.Document.{entry_of, target_entries, needed_node, needed_entries, symbol_node, root_entries}
+use Rattle.ifs_text.specs.Document.{entry_of, needed_node, needed_entries, symbol_node, root_entries}
 use Rattle.ifs_text.specs.DocumentBack.{HasNumbers}
 use Rattle.ifs_text.specs.Maps.{first_of, key_fault_at, key_fault, missing_fault, keys_fault, value_at}
 use Rattle.ifs_text.specs.Values.{name_in}

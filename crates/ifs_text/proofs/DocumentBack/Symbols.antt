@@ -1,5 +1,5 @@
 -- The map of a symbol has no fault, and says the symbol.
-use Rattle.std.proofs.Common.{◌≡◌, ℕ, ◌<◌, ◌^◌, Bool, true, false, List, [], ◌∷◌, ◌++◌, map, codes, decimal, Option, Some, None, refl, sym, ap, ◌∙◌, subst}
+use Rattle.std.proofs.Common.{◌≡◌, ℕ, ◌^◌, Bool, true, false, List, [], ◌∷◌, ◌++◌, map, codes, decimal, Option, Some, None, refl, ap, ◌∙◌}
 use Rattle.std.specs.Prelude.{nat_lt, is_some, unwrap_or, option_map, option_and_then}
 use Rattle.std.specs.List.{list_all, filter_map, cons_option}
 use Rattle.std.specs.Option.{option_or}

@@ -1,5 +1,5 @@
 -- Each value of the document stands for what it was printed for.
-use Rattle.std.proofs.Common.{◌≡◌, ℕ, ◌<◌, ◌^◌, ◌&&◌, Bool, true, false, if◌then◌else◌, List, [], ◌∷◌, map, take, drop, codes, decimal, Option, Some, None, refl, ap, ◌∙◌, subst, arith}
+use Rattle.std.proofs.Common.{◌≡◌, ℕ, ◌<◌, ◌^◌, ◌&&◌, true, false, if◌then◌else◌, List, [], ◌∷◌, map, take, drop, codes, decimal, Some, None, refl, ap, ◌∙◌, subst, arith}
 use Rattle.std.specs.Prelude.{nat_eq}
 use Rattle.std.specs.Char.{digit_value}
 use Rattle.std.specs.List.{list_all, filter_map, cons_option}
@@ -8,9 +8,7 @@ use Rattle.std.proofs.lemmas.Bool.{and_parts, eqb-true, lt-ltb, false_from_ne_tr
 use Rattle.std.proofs.lemmas.Fmt.{decimal_is_IsNumeral}
 use Rattle.ifs_bytes.specs.Numeral.{numeral, in_64_bits}
 use Rattle.ifs_interface.specs.Triple.{same_name}
-use Rattle.ifs_bytes.specs.declared.form.Order.{Order}
 use Rattle.ifs_bytes.specs.declared.form.Order.TheVariants.{Little, Big}
-use Rattle.ifs_bytes.specs.declared.form.Width.{Width}
 use Rattle.ifs_bytes.specs.declared.form.Width.TheVariants.{W32, W64}
 use Rattle.ifs_bytes.proofs.Numerals.{numeral-decimal}
 use Rattle.ifs_interface.specs.declared.symbol.Kind.{Kind}
