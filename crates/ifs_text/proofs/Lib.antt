@@ -19,3 +19,5 @@ pub mod FlowMaps
 pub mod RootEntries
 pub mod PrintedNodes
 pub mod PrintedDocument
+pub mod DocumentBack
+pub mod ReadBack

@@ -8,3 +8,4 @@ pub mod Faults
 pub mod Parts
 pub mod Text
 pub mod ReadBack
+pub mod DocumentBack

@@ -17,7 +17,7 @@ mod target;
 mod values;
 
 pub use cause::TextCause;
-pub use laws::printed_interfaces_are_read_back;
+pub use laws::{documents_are_interfaces, printed_interfaces_are_read_back};
 pub use printed::print;
 pub use reading::read;
 

@@ -1,8 +1,11 @@
 //! An interface as a text.
 
-ghost use Rattle.std.specs.Prelude.{◌≡◌, ◌++◌, IfOk, OnOk};
-ghost use Rattle.std.specs.List.{flat_map};
+ghost use Rattle.std.specs.Prelude.{◌≡◌, ◌<◌, ◌^◌, ◌++◌, [], ◌∷◌, true, unwrap_or, Ok, IfOk, OnOk};
+ghost use Rattle.std.specs.List.{flat_map, list_all};
 ghost use Rattle.std.specs.Option.{option_copied};
+ghost use Rattle.ifs_text.specs.DocumentBack.{has_small_size};
+ghost use Rattle.ifs_text.specs.ReadBack.{CanBePrinted};
+ghost use Rattle.ifs_text.specs.Text.{interface_of_text};
 ghost use Rattle.ifs_text.specs.Printed.{printed_interface, scalar_line, soname_line, target_line, parts_line, part_entries, has_part, arch_entry, order_entry, width_entry, needed_lines, needed_line, symbol_lines, symbol_line, first_entries, other_entries, kind_name, size_entry, undefined_entry, weak_entry, warning_entry};
 
 use ifs_bytes::{Memory, Order, Text, Width};
@@ -10,13 +13,23 @@ use ifs_interface::{Interface, Kind, Symbol, Target, put_arch};
 use std::alloc::Global;
 use yaml_profile::append_scalar;
 
-/// The text of an interface. The only error is want of memory.
-#[tactic(auto, unfolding(crate::specs::Printed::printed_interface))]
+/// The text of an interface, which `read` reads as just this interface. The only error is want of memory.
 pub fn print(alloc: Global, interface: &Interface) -> Result<Text, Memory>
-    ensures { IfOk result (λ text. text ≡ printed_interface interface.now) }
+    ensures text { IfOk result (λ text. text ≡ printed_interface interface.now) }
+    ensures read_back { IfOk result (λ text. interface_of_text text ≡ Ok interface.now) }
+{
+    printed(alloc, interface)
+}
+
+// The same, and that the interface has numbers of its types.
+#[tactic(auto, unfolding(crate::specs::Printed::printed_interface))]
+fn printed(alloc: Global, interface: &Interface) -> Result<Text, Memory>
+    ensures text { IfOk result (λ text. text ≡ printed_interface interface.now) }
+    ensures numbers { OnOk result (CanBePrinted interface.now) }
 {
     let mut text = Text::new(alloc);
     text.append(b"--- !ifs-v1\nIfsVersion:      3.0\n")?;
+    machine_is_small(interface.target().machine);
     append_soname(&mut text, interface.soname())?;
     append_target(&mut text, interface.target())?;
     append_needed(&mut text, interface.needed_list())?;
@@ -24,6 +37,11 @@ pub fn print(alloc: Global, interface: &Interface) -> Result<Text, Memory>
     text.append(b"...\n")?;
     Ok(text)
 }
+
+// A machine is a number of 16 bits, by its type.
+fn machine_is_small(machine: Option<u16>)
+    ensures { unwrap_or machine 0 < 2 ^ 16 }
+{}
 
 // Appends a line of fixed bytes and a scalar.
 #[tactic(auto, unfolding(crate::specs::Printed::scalar_line))]
@@ -140,7 +158,8 @@ fn append_needed_names(out: &mut Text, names: &[Text]) -> Result<(), Memory>
 
 // Appends the lines of the symbols.
 fn append_symbols(out: &mut Text, symbols: &[Symbol]) -> Result<(), Memory>
-    ensures { OnOk result (out.new ≡ out.old ++ symbol_lines symbols.now) }
+    ensures text { OnOk result (out.new ≡ out.old ++ symbol_lines symbols.now) }
+    ensures sizes { OnOk result (list_all has_small_size symbols.now ≡ true) }
 {
     if symbols.is_empty() {
         return out.append(b"Symbols:         []\n");
@@ -151,7 +170,8 @@ fn append_symbols(out: &mut Text, symbols: &[Symbol]) -> Result<(), Memory>
 }
 
 fn append_each_symbol(out: &mut Text, symbols: &[Symbol]) -> Result<(), Memory>
-    ensures { OnOk result (out.new ≡ out.old ++ flat_map symbol_line symbols.now) }
+    ensures text { OnOk result (out.new ≡ out.old ++ flat_map symbol_line symbols.now) }
+    ensures sizes { OnOk result (list_all has_small_size symbols.now ≡ true) }
 {
     for symbol in symbols {
         append_symbol(out, symbol)?;
@@ -161,7 +181,8 @@ fn append_each_symbol(out: &mut Text, symbols: &[Symbol]) -> Result<(), Memory>
 
 #[tactic(auto, unfolding(crate::specs::Printed::symbol_line))]
 fn append_symbol(out: &mut Text, symbol: &Symbol) -> Result<(), Memory>
-    ensures { OnOk result (out.new ≡ out.old ++ symbol_line symbol.now) }
+    ensures text { OnOk result (out.new ≡ out.old ++ symbol_line symbol.now) }
+    ensures size { OnOk result (has_small_size symbol.now ≡ true) }
 {
     out.append(b"  - { ")?;
     append_first_entries(out, symbol)?;
@@ -185,7 +206,8 @@ fn append_first_entries(out: &mut Text, symbol: &Symbol) -> Result<(), Memory>
 // Appends what some symbols have.
 #[tactic(auto, unfolding(crate::specs::Printed::other_entries))]
 fn append_other_entries(out: &mut Text, symbol: &Symbol) -> Result<(), Memory>
-    ensures { OnOk result (out.new ≡ out.old ++ other_entries symbol.now) }
+    ensures text { OnOk result (out.new ≡ out.old ++ other_entries symbol.now) }
+    ensures size { OnOk result (has_small_size symbol.now ≡ true) }
 {
     append_size(out, symbol.size)?;
     append_undefined(out, symbol.undefined)?;
@@ -208,7 +230,8 @@ fn append_kind(out: &mut Text, kind: Kind) -> Result<(), Memory>
 }
 
 fn append_size(out: &mut Text, size: Option<u64>) -> Result<(), Memory>
-    ensures { OnOk result (out.new ≡ out.old ++ size_entry size) }
+    ensures text { OnOk result (out.new ≡ out.old ++ size_entry size) }
+    ensures small { unwrap_or size 0 < 2 ^ 64 }
 {
     match size {
         Some(size) => {
