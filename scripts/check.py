@@ -16,7 +16,7 @@ OWN = Path(__file__).resolve()
 TEXTS = {".md", ".rt", ".antt", ".edit", ".py", ".sh", ".1", ".txt", ""}
 # The repository stands alone: no paper of the task is cited by a page, a letter or a number.
 CITATION = re.compile(r"[Dd]ocument 0[1-4]\b|\b0[1-4] [A-L]\b|shared/(?:spec|design)|\b[Dd]emand \d|\brequest R\d")
-PAPERS = ["README.md", *(f"docs/{name}" for name in ("ARCHITECTURE.md", "DECISIONS.md"))]
+PAPERS = ["README.md", *(f"docs/{name}" for name in ("ARCHITECTURE.md", "DECISIONS.md", "coming-from-llvm-ifs.md"))]
 
 
 def text_of(path):
