@@ -125,7 +125,7 @@ def merged():
     yield refused("a size and none", "A B", {"A": text(BAR), "B": text("{ Name: bar, Type: Object }")}, 1,
                   "merge: SizeMismatch(bar, 42, none)")
     yield refused("two types", "A B", {"A": text(FOO), "B": text("{ Name: foo, Type: TLS }")}, 1,
-                  "merge: TypeMismatch(foo, Func, TLS)")
+                  "merge: TypeMismatch(foo, Func, Tls)")
     for word, cause in (("Weak: true", "WeakMismatch"), ("Undefined: true", "UndefinedMismatch"),
                         ("Warning: old", "WarningMismatch")):
         other = text("{ Name: foo, Type: Func, %s }" % word)
@@ -178,6 +178,8 @@ def targets():
     yield case("the same parts", "--arch=X86_64 --bitwidth=64 --endianness=little F", f, TEXT)
     yield case("a triple for its parts", "--target=x86_64-linux-gnu F", f, TRIPLE)
     yield case("the same triple", "--target=x86_64-linux-gnu T", triple, TRIPLE)
+    yield refused("another triple", "--target=x86_64-pc-linux-gnu T", triple, 1,
+                  "adjust: TargetConflict(Triple, x86_64-linux-gnu, x86_64-pc-linux-gnu)")
     yield case("the machine of a triple", "--arch=x86_64 T", triple, TRIPLE)
     yield refused("another machine than a triple's", "--arch=arm T", triple, 1, "adjust: TargetConflict(Arch, x86_64, arm)")
     yield case("the stub of a triple", "--output-elf=- T", triple, STUB)
