@@ -112,7 +112,8 @@ def readme():
     page = text_of("README.md")
     if text_of("crates/ifs/stdout") not in page:
         yield "README.md doesn't show what the program prints of crates/ifs/data/libfoo.so"
-    for mark in ("<!-- bench/stub.py fills this -->", "<!-- up to here -->"):
+    for mark in ("<!-- bench/stub.py fills this -->", "<!-- up to here -->",
+                 "<!-- bench/builds.py fills this -->", "<!-- bench/builds.py ends here -->"):
         if page.count(mark) != 1:
             yield f"README.md has not just one {mark}"
 
