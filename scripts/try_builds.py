@@ -11,19 +11,22 @@ and by what ninja tells; and the programs are run, against the library itself.
 - ninja: the stub is a file of its own, made of the library by a rule with `restat = 1`.
 - solink: one rule links the library and writes its stub, as GN's tool of that name does.
 - gn: the same, written by GN itself.
-- Bazel: the call that its link_dynamic_library.sh makes of an interface builder, by hand and by that script.
+- Bazel: a toolchain whose interface library builder is a script of two lines. Where Bazel isn't there, as Debian packs it,
+  the call that its link_dynamic_library.sh makes of such a builder is made by hand.
 
 A build whose tool is missing is skipped, and said so. The status is 0 where all went so, 1 where something didn't, and
 77 where the program isn't built or nothing could be tried.
 """
 import argparse
-import os
+import re
 import shlex
 import shutil
 import subprocess
 import sys
 import tempfile
 from pathlib import Path
+
+import bazel_build
 
 TOP = Path(__file__).resolve().parent.parent
 CLIENTS = ["app1", "app2", "app3"]
@@ -94,11 +97,7 @@ executable("%s") {
   deps = [ ":libx" ]
 }
 """
-BUILDER = """#!/bin/sh
-exec %s stub --write-if-changed --output-elf="$2" "$1"
-"""
-BAZEL_SCRIPTS = ["/usr/share/bazel/embedded_tools/tools/cpp/link_dynamic_library.sh",
-                 "/usr/lib/bazel/embedded_tools/tools/cpp/link_dynamic_library.sh"]
+LINK_SCRIPT = bazel_build.TOOLS / "tools/cpp/link_dynamic_library.sh"
 
 
 def library(values, more=""):
@@ -198,6 +197,38 @@ def by_gn(program, folder):
     yield from changes(build)
 
 
+class BazelBuild(Build):
+    """The same by Bazel, in a workspace of its own."""
+
+    def __init__(self, program, folder):
+        self.folder = folder
+        super().__init__(bazel_build.write(folder, program, CLIENTS), folder / "work/bazel-bin")
+
+    def bazel(self, verb, *words):
+        return run(*bazel_build.command(self.folder, verb, *words), folder=self.sources)
+
+    def build(self):
+        """The status, and the files that Bazel says it linked."""
+        done = self.bazel("build", "-s", *(f"//:{name}" for name in CLIENTS))
+        linked = re.findall(r"^SUBCOMMAND: .*'Linking (\S+)'", done.stderr, re.M)
+        return done.returncode, sorted(linked), [name for name in CLIENTS if name in linked]
+
+    def is_done(self):
+        return self.build() == (0, [], [])
+
+    def stub(self):
+        """The bytes alone: Bazel takes every output away before it is made again."""
+        return (self.out / "libx.ifso").read_bytes(), None
+
+
+def by_bazel(program, folder):
+    build = BazelBuild(program, folder)
+    try:
+        yield from changes(build)
+    finally:
+        build.bazel("shutdown")
+
+
 # ---- Bazel's call
 
 def compiled(folder, name, text):
@@ -213,10 +244,10 @@ def runs_against(stub, lib, folder):
     return run(app).stdout if linked.returncode == 0 else linked.stderr
 
 
-def by_bazel(program, folder):
+def by_call(program, folder):
     """The builder, called as the script calls it: the library, and where the interface library goes."""
     builder = folder / "build_interface_so"
-    builder.write_text(BUILDER % program)
+    builder.write_text(bazel_build.BUILDER % program)
     builder.chmod(0o755)
     lib, stub = folder / "libx.so", folder / "libx.ifso"
     shared = ["-shared", f"-Wl,-soname,{lib.name}", "-o", lib, compiled(folder, "libx", library((1, 2)))]
@@ -227,19 +258,18 @@ def by_bazel(program, folder):
     yield "again", (run(builder, lib, stub).returncode, written(stub)), (0, at)
     yield "a missing library", (run(builder, folder / "none.so", none).returncode, written(none)), (3, None)
     yield "an object", (run(builder, folder / "libx.o", none).returncode, written(none)), (1, None)
-    script = next((path for path in BAZEL_SCRIPTS if os.path.exists(path)), None)
-    if script is None:
-        print("Bazel's link_dynamic_library.sh isn't installed: its call is made by hand alone")
-        return
-    yield from by_its_script(script, builder, shared, folder)
+    if LINK_SCRIPT.exists():
+        yield from by_its_script(builder, shared, folder)
+    else:
+        print("link_dynamic_library.sh isn't installed: its call is made by hand alone")
 
 
-def by_its_script(script, builder, shared, folder):
+def by_its_script(builder, shared, folder):
     """The library linked by Bazel's own script, which then calls the builder."""
     lib, stub, gcc = folder / "libx.so", folder / "libx.ifso", shutil.which("gcc")
 
     def link(interface, words):
-        return run("bash", script, interface, builder, lib, stub, gcc, *words).returncode
+        return run("bash", LINK_SCRIPT, interface, builder, lib, stub, gcc, *words).returncode
 
     stub.unlink(missing_ok=True)
     yield "the script without an interface", (link("no", shared), stub.exists()), (0, False)
@@ -250,7 +280,7 @@ def by_its_script(script, builder, shared, folder):
     yield "a client that runs the new code", runs_against(stub, lib, folder), "30\n"
     parameters = folder / "libx.params"
     parameters.write_text("".join(f"{word}\n" for word in ("yes", builder, lib, stub, gcc, *shared)))
-    done = run("bash", script, f"@{parameters}")
+    done = run("bash", LINK_SCRIPT, f"@{parameters}")
     yield "the script with a parameter file", (done.returncode, written(stub)), (0, at)
     yield "the script passes a refusal on", link("yes", ["-r", "-o", lib, folder / "libx.o"]), 1
 
@@ -261,7 +291,8 @@ BUILDS = {
     "ninja": (["gcc", "ninja"], lambda program, folder: by_ninja(NINJA, program, folder)),
     "solink": (["gcc", "ninja"], lambda program, folder: by_ninja(SOLINK, program, folder)),
     "gn": (["gcc", "ninja", "gn"], by_gn),
-    "Bazel": (["gcc", "bash"], by_bazel),
+    "Bazel": (["gcc", "bazel"], by_bazel),
+    "Bazel's call": (["gcc", "bash"], by_call),
 }
 
 
@@ -269,11 +300,12 @@ def tried(name, program):
     """The number of steps of a build that went otherwise; None where its tools are missing."""
     tools, make = BUILDS[name]
     missing = [tool for tool in tools if not shutil.which(tool)]
+    missing += ["its repositories"] if make == by_bazel and not missing and not bazel_build.is_there() else []
     if missing:
         print(f"{name}: skipped, without {', '.join(missing)}")
         return None
     wrong = count = 0
-    with tempfile.TemporaryDirectory() as folder:
+    with tempfile.TemporaryDirectory(ignore_cleanup_errors=True) as folder:
         for step, came, wanted in make(program, Path(folder)):
             count += 1
             if came != wanted:
