@@ -11,8 +11,9 @@ and by what ninja tells; and the programs are run, against the library itself.
 - ninja: the stub is a file of its own, made of the library by a rule with `restat = 1`.
 - solink: one rule links the library and writes its stub, as GN's tool of that name does.
 - gn: the same, written by GN itself.
-- Bazel: a toolchain whose interface library builder is a script of two lines. Where Bazel isn't there, as Debian packs it,
-  the call that its link_dynamic_library.sh makes of such a builder is made by hand.
+- Bazel: a toolchain whose interface library builder is a script of two lines, with Bazel as Debian packs it.
+- Bazel's call: the one that its link_dynamic_library.sh makes of such a builder, by hand, and by that script where it is
+  installed.
 
 A build whose tool is missing is skipped, and said so. The status is 0 where all went so, 1 where something didn't, and
 77 where the program isn't built or nothing could be tried.
@@ -156,7 +157,10 @@ def changes(build):
     """The name of each step, what came, and what has to come."""
     every, alone, none = (0, [*CLIENTS, "libx.so"], CLIENTS), (0, ["libx.so"], []), (0, [], [])
     build.change(library((1, 2)))
-    yield "the first build", build.build(), every
+    first = build.build()
+    yield "the first build", first, every
+    if first != every:
+        return
     yield "what it prints", build.printed(), ["3"] * len(CLIENTS)
     yield "nothing more to do", (build.is_done(), build.build()), (True, none)
     stub = build.stub()
