@@ -18,6 +18,11 @@ TEXTS = {".md", ".rt", ".antt", ".edit", ".py", ".sh", ".1", ".txt", ""}
 CITATION = re.compile(r"[Dd]ocument 0[1-4]\b|\b0[1-4] [A-L]\b|shared/(?:spec|design)|\b[Dd]emand \d|\brequest R\d")
 PAPERS = ["README.md", *(f"docs/{name}" for name in ("ARCHITECTURE.md", "DECISIONS.md", "coming-from-llvm-ifs.md"))]
 
+CAUSES = {"ifs_words/specs/Printed.antt": "docs/format/words.md", "ifs_edit/specs/Printed.antt": "docs/format/edits.md",
+          "ifs_stub/specs/Printed.antt": "docs/format/stub-file.md", "elf_file/specs/Printed.antt": "docs/format/elf-library.md",
+          "ifs_text/specs/Cause.antt": "docs/format/ifs-text.md"}
+UNSEEN = {"BadGlob", "MissingOption"}
+
 
 def text_of(path):
     """The text of a file, empty where it isn't there."""
@@ -108,6 +113,24 @@ def named_words():
                     yield f"{paper} names {span}, which the code doesn't"
 
 
+def told_options():
+    """Each option of the code stands in the page of words and in the manual."""
+    for option in re.findall(r'codes "(--[\w-]+)"', text_of("crates/ifs_words/specs/Settings.antt")):
+        for paper in ("docs/format/words.md", "docs/ifs.1"):
+            if option not in text_of(paper).replace("\\-", "-"):
+                yield f"{paper} says nothing of {option}"
+
+
+def told_causes():
+    """Each cause that is printed stands in the page of its format, and in the manual unless no line has it yet."""
+    for module, paper in CAUSES.items():
+        for cause in re.findall(r'^printed_\w+_cause .*codes "([A-Z]\w+)', text_of(f"crates/{module}"), re.M):
+            papers = [paper] if cause in UNSEEN else [paper, "docs/ifs.1"]
+            for each in papers if cause != "Memory" else []:
+                if not re.search(rf"\b{cause}\b", text_of(each)):
+                    yield f"{each} says nothing of the cause {cause}"
+
+
 def readme():
     page = text_of("README.md")
     if text_of("crates/ifs/stdout") not in page:
@@ -136,7 +159,7 @@ def scripts():
 
 def main():
     found = [fault for check in (handles, citations, named_crates, edits, named_paths, named_definitions, named_words,
-                                 readme, manual, scripts) for fault in check()]
+                                 told_options, told_causes, readme, manual, scripts) for fault in check()]
     for fault in found:
         print(f"check: {fault}", file=sys.stderr)
     return 1 if found else 0
