@@ -8,7 +8,8 @@ The library and its clients are compiled with gcc. Each build goes through the s
 function, code alone again, and a function that is gone. Link steps are counted by a log that each of them appends to,
 and by what ninja tells; and the programs are run, against the library itself.
 
-- ninja: the stub is a file of its own, made of the library by a rule with `restat = 1`.
+- ninja: the stub is a file of its own, made of the library by a rule with `restat = 1`; and once more without
+  `--write-if-changed`, where all are linked again.
 - solink: one rule links the library and writes its stub, as GN's tool of that name does.
 - gn: the same, written by GN itself.
 - Bazel: a toolchain whose interface library builder is a script of two lines, with Bazel as Debian packs it.
@@ -153,27 +154,36 @@ class Build:
         return path.read_bytes(), written(path)
 
 
+EVERY, ALONE, NOTHING = (0, [*CLIENTS, "libx.so"], CLIENTS), (0, ["libx.so"], []), (0, [], [])
+
+
+def always(build):
+    """The same where the stub is always written: what is linked again is seen."""
+    for values in ((1, 2), (10, 20)):
+        build.change(library(values))
+        yield f"the code {values}", build.build(), EVERY
+
+
 def changes(build):
     """The name of each step, what came, and what has to come."""
-    every, alone, none = (0, [*CLIENTS, "libx.so"], CLIENTS), (0, ["libx.so"], []), (0, [], [])
     build.change(library((1, 2)))
     first = build.build()
-    yield "the first build", first, every
-    if first != every:
+    yield "the first build", first, EVERY
+    if first != EVERY:
         return
     yield "what it prints", build.printed(), ["3"] * len(CLIENTS)
-    yield "nothing more to do", (build.is_done(), build.build()), (True, none)
+    yield "nothing more to do", (build.is_done(), build.build()), (True, NOTHING)
     stub = build.stub()
     build.change(library((10, 20)))
-    yield "code alone", build.build(), alone
+    yield "code alone", build.build(), ALONE
     yield "the stub as it was", build.stub(), stub
     yield "the new code is run", build.printed(), ["30"] * len(CLIENTS)
     yield "nothing more to do after code alone", build.is_done(), True
     build.change(library((10, 20), "int third(void) { return 3; }\n"))
-    yield "a new function", build.build(), every
+    yield "a new function", build.build(), EVERY
     yield "another stub", build.stub()[0] != stub[0], True
     build.change(library((11, 22), "int third(void) { return 3 * 4; }\n"))
-    yield "code alone again", build.build(), alone
+    yield "code alone again", build.build(), ALONE
     yield "the newer code is run", build.printed(), ["33"] * len(CLIENTS)
     build.change(library((11,)))
     status, _, _ = build.build()
@@ -183,10 +193,10 @@ def changes(build):
     yield "with its code", build.printed(), ["11"] * len(CLIENTS)
 
 
-def by_ninja(rules, program, folder):
+def by_ninja(rules, program, folder, steps=changes):
     clients = "".join(f"build {name}.o: cc {name}.c\nbuild {name}: link {name}.o libx.so.ifso\n" for name in CLIENTS)
     (folder / "build.ninja").write_text(rules.replace("{program}", program.replace("$", "$$")) + clients)
-    yield from changes(Build(folder, folder))
+    yield from steps(Build(folder, folder))
 
 
 def by_gn(program, folder):
@@ -218,7 +228,7 @@ class BazelBuild(Build):
         return done.returncode, sorted(linked), [name for name in CLIENTS if name in linked]
 
     def is_done(self):
-        return self.build() == (0, [], [])
+        return self.build() == NOTHING
 
     def stub(self):
         """The bytes alone: Bazel takes every output away before it is made again."""
@@ -293,6 +303,8 @@ def by_its_script(builder, shared, folder):
 
 BUILDS = {
     "ninja": (["gcc", "ninja"], lambda program, folder: by_ninja(NINJA, program, folder)),
+    "ninja, a stub that is always written": (["gcc", "ninja"], lambda program, folder: by_ninja(
+        NINJA.replace(" --write-if-changed", ""), program, folder, always)),
     "solink": (["gcc", "ninja"], lambda program, folder: by_ninja(SOLINK, program, folder)),
     "gn": (["gcc", "ninja", "gn"], by_gn),
     "Bazel": (["gcc", "bazel"], by_bazel),
