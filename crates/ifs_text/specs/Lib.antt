@@ -1,4 +1,5 @@
 pub mod Printed
+pub mod Document
 pub mod Cause
 pub mod Maps
 pub mod Fault

@@ -1,11 +1,11 @@
 -- What is true however a reply was delivered.
 use Rattle.std.proofs.Common.{◌≡◌, ◌≢◌, ℕ, ◌+◌, ◌<◌, ◌≤◌, ◌⊎◌, Bool, true, false, cond, List, [], ◌∷◌, length, Option, refl, sym, subst, ◌∙◌, inl, inr, arith}
-use Rattle.std.specs.Prelude.{codes}
+use Rattle.std.specs.Prelude.{codes, IfSome, Some, None}
 use Rattle.std.specs.Io.KnownBytes.{append_known}
 use Rattle.ifs_outside.specs.Count.{raised, Rose}
 use Rattle.ifs_top.specs.declared.reply.Output.{Output}
 use Rattle.ifs_top.specs.declared.reply.Reply.{Reply}
-use Rattle.ifs_top.specs.Outside.{Places, Keeps, StopsWithin, PlaceRose, SameFaults, Faulted, after, written}
+use Rattle.ifs_top.specs.Outside.{Places, IfTold, Keeps, StopsWithin, PlaceRose, SameFaults, Faulted, Writes, after, written}
 use Rattle.ifs_top.specs.Reply.{fault_line, is_printed, Names, HasOutputs}
 use Rattle.ifs_top.specs.Steps.{Says, Delivers, memory_line}
 
@@ -13,33 +13,43 @@ pub keeps_stops : (outputs : List Output) (p q : Places) → Keeps p q → Stops
 keeps_stops [] p q h = h
 keeps_stops (output ∷ outputs) p q h = inl h
 
-pub written_stops : (outputs : List Output) (p : Places) → StopsWithin outputs p (written outputs p)
+written_stops : (outputs : List Output) (p : Places) → StopsWithin outputs p (written outputs p)
 written_stops [] p = (refl, refl)
 written_stops (output ∷ outputs) p = inr (inr (written_stops outputs (after output p)))
 
-one_of : (b : Bool) (x y p : Places) → SameFaults p x → SameFaults p y → SameFaults p (cond b x y)
-one_of true x y p hx hy = hx
-one_of false x y p hx hy = hy
+-- what holds of what is told
+pub told_here : {X P : Type 0} (o : Option X) → P → IfSome o (λ _. P)
+told_here None h = tt
+told_here (Some x) h = h
+
+pub told_more : {X P Q : Type 0} (o : Option X) → (P → Q) → IfSome o (λ _. P) → IfSome o (λ _. Q)
+told_more None f h = tt
+told_more (Some x) f h = f h
 
 same_faults : (p : Places) → SameFaults p p
 same_faults p = record { out = refl; reads = refl; writes = refl; misses = refl }
 
-pub written_faults : (outputs : List Output) (p : Places) → SameFaults p (written outputs p)
-written_faults [] p = same_faults p
-written_faults (output ∷ outputs) p =
-    let one : SameFaults p (after output p) = one_of (is_printed output) _ _ p (record { out = refl; reads = refl; writes = refl; misses = refl }) (record { out = refl; reads = refl; writes = refl; misses = refl }) in
-    let others = written_faults outputs (after output p) in
-    record {
-      out = others.out ∙ one.out;
-      reads = others.reads ∙ one.reads;
-      writes = others.writes ∙ one.writes;
-      misses = others.misses ∙ one.misses;
-    }
+-- ---- outputs that were all written
+
+writes_told : (outputs : List Output) (p q : Places) → Writes outputs p q → IfTold p (q ≡ written outputs p)
+writes_told [] p q h = told_here p.files h
+writes_told (output ∷ outputs) p q h = h.0
+
+writes_faults : (outputs : List Output) (p q : Places) → Writes outputs p q → SameFaults p q
+writes_faults [] p q h = subst (λ (x : Places). SameFaults p x) (sym h) (same_faults p)
+writes_faults (output ∷ outputs) p q h = h.1
+
+writes_none : (outputs : List Output) (p q : Places) → Writes outputs p q → length outputs ≡ 0 → q ≡ p
+writes_none [] p q h e = h
+writes_none (output ∷ outputs) p q h e = absurd (omega (arith, e))
+
+writes_stops : (outputs : List Output) (p q : Places) → Writes outputs p q → IfTold p (StopsWithin outputs p q)
+writes_stops outputs p q h = told_more p.files (λ is. subst (λ (x : Places). StopsWithin outputs p x) (sym is) (written_stops outputs p)) (writes_told outputs p q h)
 
 -- all of the reply was given
 pub record Given (reply : Reply) (r : ℕ) (p q : Places) (err later : Option (List ℕ)) : Type 0 where
   pub status : r ≡ reply.status
-  pub places : q ≡ written reply.outputs p
+  pub places : IfTold p (q ≡ written reply.outputs p)
   pub line : later ≡ append_known err reply.line
 
 -- the counts of writing, added up
@@ -51,8 +61,8 @@ abbrev pub AnyRose : Places → Places → ℕ → ℕ → Type 0
 AnyRose p q f g = Rose f g ⊎ PlaceRose p q
 
 pub record Ends (reply : Reply) (r : ℕ) (p q : Places) (err later : Option (List ℕ)) (f g : ℕ) : Type 0 where
-  pub stops : StopsWithin reply.outputs p q
-  pub none : length reply.outputs ≡ 0 → q ≡ written reply.outputs p
+  pub stops : IfTold p (StopsWithin reply.outputs p q)
+  pub none : length reply.outputs ≡ 0 → q ≡ p
   pub reads : q.counts.read_faults ≡ p.counts.read_faults
   pub misses : q.counts.misses ≡ p.counts.misses
   pub most : r ≤ 5
@@ -64,28 +74,29 @@ pub record Ends (reply : Reply) (r : ℕ) (p q : Places) (err later : Option (Li
   pub line : r ≡ 4 → Rose f g ⊎ ((path : List ℕ) × Names reply.outputs path × (later ≡ append_known err (fault_line path (codes "write failed"))) × PlaceRose p q)
 
 -- all outputs were written
-whole : (reply : Reply) (r : ℕ) (p q : Places) (err later : Option (List ℕ)) (f g : ℕ) → reply.status ≤ 3 → q ≡ written reply.outputs p → Says reply.line reply.status r err later f g → Ends reply r p q err later f g
+whole : (reply : Reply) (r : ℕ) (p q : Places) (err later : Option (List ℕ)) (f g : ℕ) → reply.status ≤ 3 → Writes reply.outputs p q → Says reply.line reply.status r err later f g → Ends reply r p q err later f g
 whole reply r p q err later f g three is says =
-    let same : SameFaults p q = subst (λ (x : Places). SameFaults p x) (sym is) (written_faults reply.outputs p) in
-    let stops : StopsWithin reply.outputs p q = subst (λ (x : Places). StopsWithin reply.outputs p x) (sym is) (written_stops reply.outputs p) in
+    let same = writes_faults reply.outputs p q is in
+    let stops = writes_stops reply.outputs p q is in
+    let told = writes_told reply.outputs p q is in
     elim says [
       | inl said ↦ record {
         stops = stops;
-        none = λ _. is;
+        none = writes_none reply.outputs p q is;
         reads = same.reads;
         misses = same.misses;
         most = omega (arith, said.0);
         least = omega (arith, said.0);
         four = λ e. absurd (omega (arith, said.0));
         grew = λ h. absurd (omega (arith, said.2, same.out, same.writes, h));
-        low = λ _. record { status = said.0; places = is; line = said.1 };
-        quiet = λ _ _ _ _. record { status = said.0; places = is; line = said.1 };
+        low = λ _. record { status = said.0; places = told; line = said.1 };
+        quiet = λ _ _ _ _. record { status = said.0; places = told; line = said.1 };
         line = λ e. absurd (omega (arith, said.0));
       }
       | inr other ↦ elim other [
         | inl failed ↦ record {
           stops = stops;
-          none = λ _. is;
+          none = writes_none reply.outputs p q is;
           reads = same.reads;
           misses = same.misses;
           most = omega (arith, failed.0);
@@ -98,7 +109,7 @@ whole reply r p q err later f g three is says =
         }
         | inr spent ↦ record {
           stops = stops;
-          none = λ _. is;
+          none = writes_none reply.outputs p q is;
           reads = same.reads;
           misses = same.misses;
           most = omega (arith, spent.0);
@@ -117,7 +128,7 @@ some_output [] path named = absurd cc
 some_output (output ∷ outputs) path named = omega arith
 
 -- an output failed
-spoilt : (reply : Reply) (r : ℕ) (p q : Places) (err later : Option (List ℕ)) (f g : ℕ) (path : List ℕ) → reply.status ≤ 3 → Names reply.outputs path → StopsWithin reply.outputs p q → Faulted p q → Says (fault_line path (codes "write failed")) 4 r err later f g → Ends reply r p q err later f g
+spoilt : (reply : Reply) (r : ℕ) (p q : Places) (err later : Option (List ℕ)) (f g : ℕ) (path : List ℕ) → reply.status ≤ 3 → Names reply.outputs path → IfTold p (StopsWithin reply.outputs p q) → Faulted p q → Says (fault_line path (codes "write failed")) 4 r err later f g → Ends reply r p q err later f g
 spoilt reply r p q err later f g path three named stops faulted says =
     let some = some_output reply.outputs path named in
     let four_or_five : (4 ≤ r) × (r ≤ 5) = elim says [ inl said ↦ (omega (arith, said.0), omega (arith, said.0)) | inr other ↦ elim other [ inl failed ↦ (omega (arith, failed.0), omega (arith, failed.0)) | inr spent ↦ (omega (arith, spent.0), omega (arith, spent.0)) ] ] in
@@ -136,7 +147,7 @@ spoilt reply r p q err later f g path three named stops faulted says =
     }
 
 -- memory ran out
-without_memory : (reply : Reply) (r : ℕ) (p q : Places) (err later : Option (List ℕ)) (f g : ℕ) → reply.status ≤ 3 → 0 < length reply.outputs → StopsWithin reply.outputs p q → Faulted p q ⊎ SameFaults p q → Says memory_line 5 r err later f g → Ends reply r p q err later f g
+without_memory : (reply : Reply) (r : ℕ) (p q : Places) (err later : Option (List ℕ)) (f g : ℕ) → reply.status ≤ 3 → 0 < length reply.outputs → IfTold p (StopsWithin reply.outputs p q) → Faulted p q ⊎ SameFaults p q → Says memory_line 5 r err later f g → Ends reply r p q err later f g
 without_memory reply r p q err later f g three some stops counted says =
     let five : r ≡ 5 = elim says [ inl said ↦ said.0 | inr other ↦ elim other [ inl failed ↦ omega (arith, failed.0) | inr spent ↦ spent.0 ] ] in
     record {

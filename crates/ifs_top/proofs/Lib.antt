@@ -1,3 +1,6 @@
+pub mod Deciding
+pub mod Each
 pub mod Ends
+pub mod Reading
 pub mod Sentences
-pub mod WordCount
+pub mod Unchanged

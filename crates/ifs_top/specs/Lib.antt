@@ -1,6 +1,8 @@
-pub mod Command
-pub mod Request
 pub mod Reply
+pub mod Refused
+pub mod Inputs
+pub mod Stub
+pub mod Unchanged
 pub mod Outcome
 pub mod Outside
 pub mod Steps

@@ -1,6 +1,7 @@
 -- What is known of the outside before or after a run: what the files and the sinks hold, where they tell it,
 -- and their counts; and how outputs change it.
-use Rattle.std.specs.Prelude.{◌≡◌, ℕ, Bool, true, false, ◌⊎◌, List, [], ◌∷◌, Option, Some, option_map, if◌then◌else◌}
+use Rattle.std.specs.Prelude.{◌≡◌, ℕ, Bool, true, false, ◌&&◌, ◌⊎◌, List, [], ◌∷◌, Option, Some, None, option_map, IfSome, if◌then◌else◌}
+use Rattle.std.specs.Str.{bytes_eq}
 use Rattle.std.specs.Io.KnownBytes.{append_known}
 use Rattle.ifs_outside.specs.Count.{Rose}
 use Rattle.ifs_outside.specs.Files.{FileMap, put, with_write}
@@ -29,17 +30,31 @@ pub record Outside : Type 0 where
 abbrev pub places : Option (List ℕ) → ℕ → Option FileMap → FileCounts → Places
 places out out_faults files counts = record { out = out; out_faults = out_faults; files = files; counts = counts }
 
+-- the path holds just these bytes already
+abbrev pub holds : List ℕ → Option (List ℕ) → Bool
+holds bytes None = false
+holds bytes (Some held) = bytes_eq held bytes
+
+-- an output that is written only where it changes something stays as it is held
+abbrev pub stays : Output → Option FileMap → Bool
+stays output None = false
+stays output (Some files) = output.if_changed && holds output.bytes (files output.path)
+
 -- the places once an output is written
 abbrev pub after : Output → Places → Places
 after output p =
-    if is_printed output
-    then record p { out = append_known p.out output.bytes }
-    else record p { files = option_map (put output.path (Some output.bytes)) p.files; counts = with_write p.counts }
+    if is_printed output then record p { out = append_known p.out output.bytes }
+    else (if stays output p.files then p
+    else record p { files = option_map (put output.path (Some output.bytes)) p.files; counts = with_write p.counts })
 
 -- the places once these outputs are written, in order
 abbrev pub written : List Output → Places → Places
 written [] p = p
 written (output ∷ outputs) p = written outputs (after output p)
+
+-- this holds where the files tell what they hold
+abbrev pub IfTold : Places → Type 0 → Type 0
+IfTold p P = IfSome p.files (λ _. P)
 
 -- nothing is changed but counts
 abbrev pub Keeps : Places → Places → Type 0
@@ -75,6 +90,11 @@ pub record Faulted (old new : Places) : Type 0 where
   pub rose : PlaceRose old new
   pub reads : new.counts.read_faults ≡ old.counts.read_faults
   pub misses : new.counts.misses ≡ old.counts.misses
+
+-- all outputs were written, and no count of faults changed
+abbrev pub Writes : List Output → Places → Places → Type 0
+Writes [] old new = new ≡ old
+Writes (output ∷ outputs) old new = IfTold old (new ≡ written (output ∷ outputs) old) × SameFaults old new
 
 -- what an output that wasn't written whole leaves of the counts
 abbrev pub Counted : WriteCause → Places → Places → Type 0

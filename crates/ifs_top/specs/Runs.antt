@@ -1,5 +1,5 @@
 -- What a run does, sentence by sentence.
-use Rattle.std.specs.Prelude.{◌≡◌, ◌≢◌, ℕ, ◌+◌, ◌<◌, ◌≤◌, ◌⊎◌, List, codes, Option, Some, None, Err, IfSome}
+use Rattle.std.specs.Prelude.{◌≡◌, ◌≢◌, ℕ, ◌+◌, ◌<◌, ◌≤◌, ◌⊎◌, List, codes, Option, Result, Ok, Err, IfSome}
 use Rattle.std.specs.Io.KnownBytes.{append_known}
 use Rattle.ifs_outside.specs.Count.{raised, Rose}
 use Rattle.ifs_outside.specs.Files.{FileMap, reading}
@@ -7,7 +7,10 @@ use Rattle.ifs_outside.specs.declared.counts.FileCounts.{FileCounts}
 use Rattle.ifs_outside.specs.declared.cause.ReadCause.TheVariants.{Missing, TooLarge}
 use Rattle.ifs_top.specs.declared.limits.TheConstants.{MOST_FILE_BYTES}
 use Rattle.ifs_top.specs.declared.reply.Reply.{Reply}
-use Rattle.ifs_top.specs.Command.{Asked}
+use Rattle.ifs_words.specs.Printed.{printed_word_cause}
+use Rattle.ifs_words.specs.declared.cause.WordCause.{WordCause}
+use Rattle.ifs_words.specs.declared.command.Command.{Command}
+use Rattle.ifs_top.specs.Inputs.{AreNamed, inputs_of}
 use Rattle.ifs_top.specs.Outcome.{outcome}
 use Rattle.ifs_top.specs.Outside.{Outside, Keeps, PlaceRose, StopsWithin, places, written}
 use Rattle.ifs_top.specs.Reply.{fault_line, Names}
@@ -68,13 +71,18 @@ SaysUnread path old new =
     × IfSome old.places.files (λ files. reading MOST_FILE_BYTES (files path) ≡ Err TooLarge))
     ⊎ ((new.err ≡ append_known old.err (fault_line path (codes "read failed"))) × Rose old.places.counts.read_faults new.places.counts.read_faults))
 
+-- the words name the path of an input
+abbrev pub IsInput : Result Command WordCause → List ℕ → Type 0
+IsInput (Ok command) path = AreNamed (inputs_of command) path
+IsInput (Err cause) path = ⊥
+
 -- the line says of the path of an output that writing it failed
-abbrev pub SaysUnwritten : Option Asked → Outside → Outside → Type 0
+abbrev pub SaysUnwritten : Result Command WordCause → Outside → Outside → Type 0
 SaysUnwritten asked old new =
     (path : List ℕ) × IfSome old.places.files (λ files. Names (outcome asked files).outputs path) × (new.err ≡ append_known old.err (fault_line path (codes "write failed"))) × PlaceRose old.places new.places
 
 -- a run whose words ask for this ended with this status
-pub record Runs (asked : Option Asked) (status : ℕ) (old new : Outside) : Type 0 where
+pub record Runs (asked : Result Command WordCause) (status : ℕ) (old new : Outside) : Type 0 where
   -- standard input is left unread
   pub left : new.left ≡ old.left
   pub input_faults : new.input_faults ≡ old.input_faults
@@ -96,9 +104,9 @@ pub record Runs (asked : Option Asked) (status : ℕ) (old new : Outside) : Type
   pub unread : status ≡ 3 → WritesNothing old new
   pub grew_unread : read_total old < read_total new → WritesNothing old new
   -- the line of a fault, with its cause
-  pub read_line : status ≡ 3 → (what : Asked) × (asked ≡ Some what) × SaysUnread what.path old new
+  pub read_line : status ≡ 3 → (path : List ℕ) × IsInput asked path × SaysUnread path old new
   pub write_line : status ≡ 4 → Rose old.err_faults new.err_faults ⊎ SaysUnwritten asked old new
   -- words that aren't understood: nothing is read or written but their line
-  pub refused : asked ≡ None → new.places ≡ old.places
-  pub refused_line : asked ≡ None → NoFault old new → status ≢ 5
-      → (status ≡ 2) × (new.err ≡ append_known old.err (fault_line (codes "words") (codes "NotYet")))
+  pub refused : (cause : WordCause) → asked ≡ Err cause → new.places ≡ old.places
+  pub refused_line : (cause : WordCause) → asked ≡ Err cause → NoFault old new → status ≢ 5
+      → (status ≡ 2) × (new.err ≡ append_known old.err (fault_line (codes "words") (printed_word_cause cause)))

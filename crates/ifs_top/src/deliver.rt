@@ -1,14 +1,15 @@
 //! A reply is written: its outputs in order, then its line.
 
-ghost use Rattle.std.specs.Prelude.{◌≡◌, ◌⊎◌, codes, length, Result};
-ghost use Rattle.ifs_top.specs.Outside.{places};
+ghost use Rattle.std.specs.Prelude.{◌≡◌, ◌⊎◌, ◌&&◌, codes, length, IfOk, IfSome, Result};
+ghost use Rattle.ifs_outside.specs.Files.{SameCounts};
+ghost use Rattle.ifs_top.specs.Outside.{holds, places};
 ghost use Rattle.ifs_top.specs.Reply.{fault_line};
 ghost use Rattle.ifs_top.specs.Steps.{WritesOne, WritesAll, Says, memory_line, Delivers, StopSays};
 
+use crate::refusal::Stop;
 use crate::reply::{Output, Reply, fault_line};
-use crate::stub::Stop;
 use ifs_bytes::Memory;
-use ifs_outside::{Files, Sink, WriteCause, write_all};
+use ifs_outside::{Failed, Files, Sink, WriteCause, write_all};
 use std::alloc::Global;
 
 /// An output that wasn't written whole: its path, and why.
@@ -16,6 +17,19 @@ use std::alloc::Global;
 pub struct Unwritten<'a> {
     pub path: &'a [u8],
     pub cause: WriteCause,
+}
+
+// Whether a file stays untouched: it holds the bytes of the output already, and is written only where it doesn't.
+fn stays<F: Files>(output: &Output, files: &mut F) -> Result<bool, Failed>
+    ensures tells { IfOk result (λ stays. IfSome (F.map files.old) (λ held. stays ≡ (output.now.if_changed && holds output.now.bytes (held output.now.path)))) }
+    ensures keeps { F.map files.new ≡ F.map files.old }
+    ensures counted { SameCounts result (F.counts files.old) (F.counts files.new) }
+{
+    if output.if_changed {
+        files.same(output.path.as_bytes(), output.bytes.as_bytes())
+    } else {
+        Ok(false)
+    }
 }
 
 // Writes one output.
@@ -29,9 +43,12 @@ fn write_output<F: Files, K: Sink>(
         (places (K.written out.new) (K.faults out.new) (F.map files.new) (F.counts files.new)) }
 {
     if output.is_printed() {
-        write_all(out, output.bytes.as_bytes())
-    } else {
-        files.write(output.path.as_bytes(), output.bytes.as_bytes())
+        return write_all(out, output.bytes.as_bytes());
+    }
+    match stays(output, files) {
+        Ok(true) => Ok(()),
+        Ok(false) => files.write(output.path.as_bytes(), output.bytes.as_bytes()),
+        Err(Failed) => Err(WriteCause::Failed),
     }
 }
 

@@ -11,6 +11,8 @@ use std::alloc::Global;
 pub struct Output {
     pub path: Text,
     pub bytes: Text,
+    /// Whether a file that holds these bytes already stays untouched.
+    pub if_changed: bool,
 }
 
 /// What a command answers: its outputs in the order in which they are written, a line on standard error, or

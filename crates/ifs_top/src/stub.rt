@@ -1,106 +1,99 @@
-//! The command `stub`: the interface of a library or a text, as a text and as a stub library.
+//! The command `stub`: the interface of libraries and texts, as a text and as a stub library.
 
-ghost use Rattle.std.specs.Prelude.{◌≡◌, ◌<◌, ◌++◌, IfOk, OnOk, Result};
-ghost use Rattle.elf_dyn.specs.Library.{library_of};
-ghost use Rattle.ifs_interface.specs.Extracted.{interface_of};
-ghost use Rattle.ifs_bytes.specs.Outcome.{UnlessMemory};
-ghost use Rattle.ifs_text.specs.Printed.{printed_interface};
-ghost use Rattle.ifs_text.specs.Text.{interface_of_text};
-ghost use Rattle.ifs_top.specs.Outcome.{by_bytes, by_text, output_at, stub_for, with_stub, reply_of};
-ghost use Rattle.ifs_top.specs.Request.{asked};
+ghost use Rattle.std.specs.Prelude.{◌≡◌, ◌<◌, ◌++◌, codes, length, IfOk, OnOk, Result};
 ghost use Rattle.std.specs.Option.{option_copied};
-ghost use Rattle.ifs_top.specs.Steps.{DecidesFor};
+ghost use Rattle.ifs_bytes.specs.Outcome.{UnlessMemory};
+ghost use Rattle.ifs_edit.specs.Adjusted.{adjusted};
+ghost use Rattle.ifs_edit.specs.Merged.{merged};
+ghost use Rattle.ifs_edit.specs.Printed.{printed_adjust_cause, printed_merge_cause};
+ghost use Rattle.ifs_edit.specs.Stripped.{stripped};
+ghost use Rattle.ifs_stub.specs.Printed.{printed_stub_cause};
+ghost use Rattle.ifs_text.specs.Printed.{printed_interface};
+ghost use Rattle.ifs_words.specs.Usable.{CanStub, IsUsable};
+ghost use Rattle.ifs_top.specs.declared.refusal.Refusal.TheVariants as refusals;
+ghost use Rattle.ifs_top.specs.Refused.{or_refused};
+ghost use Rattle.ifs_top.specs.Steps.{DecidesStub, Settles};
+ghost use Rattle.ifs_top.specs.Unchanged.{changes_nothing, gives_nothing, keeps_all, strips_nothing};
+ghost use Rattle.ifs_top.specs.Stub.{output_at, outputs_of, stub_for, stub_of_inputs, text_output, text_path};
 
-use crate::limits::MOST_FILE_BYTES;
-use crate::reply::{Output, Reply, fault, fault_line};
-use crate::words::Request;
-use elf_dyn::{ElfCause, Library};
+use crate::inputs::{Input, interfaces_in, read_inputs};
+use crate::refusal::{Refusal, Stop, refuse};
+use crate::reply::{Output, Reply};
 use ifs_bytes::{List, Memory, Text};
-use ifs_interface::Interface;
-use ifs_outside::{Files, ReadCause};
-use ifs_stub::{StubCause, emit, extract};
-use ifs_text::{TextCause, print, read};
+use ifs_edit::{AdjustCause, AdjustOptions, MergeCause, Strip, adjust, merge, strip_target};
+use ifs_interface::{Interface, Target};
+use ifs_outside::Files;
+use ifs_stub::{StubCause, emit};
+use ifs_text::print;
+use ifs_words::StubWords;
 use std::alloc::Global;
 
-/// Why a run ended before it knew what to answer.
-#[derive(Debug, Drop)]
-pub enum Stop {
-    /// A read failed; the line that says so.
-    Unread(Text),
-    /// Memory ran out.
-    Memory,
-}
-
-impl From<Memory> for Stop {
-    ghost use Rattle.std.specs.Prelude.{◌≡◌};
-    ghost use Rattle.ifs_top.specs.declared.stub.Stop.TheVariants as stops;
-
-    ghost from_gives = { λ _ stop. stop ≡ stops.Memory };
-
-    fn from(_error: Memory) -> Stop {
-        Stop::Memory
+// What the inputs are together.
+fn merged(alloc: Global, interfaces: List<Interface>) -> Result<Interface, Refusal>
+    requires { 0 < length interfaces }
+    ensures { UnlessMemory refusals.Memory result (or_refused (codes "merge") printed_merge_cause (merged interfaces)) }
+{
+    match merge(alloc, interfaces.as_slice()) {
+        Ok(interface) => Ok(interface),
+        Err(MergeCause::Memory) => Err(Refusal::Memory),
+        Err(cause) => {
+            let text = cause.printed(alloc)?;
+            Err(refuse(alloc, b"merge", text.as_bytes(), 1))
+        }
     }
 }
 
-// The interface of a library, which is let go.
-fn interface_of(alloc: Global, library: Library) -> Result<Interface, Memory>
-    ensures { IfOk result (λ interface. interface ≡ interface_of library) }
+// Whether options change nothing.
+fn changes_nothing(options: &AdjustOptions) -> bool
+    ensures { result ≡ changes_nothing options.now }
 {
-    extract(alloc, &library)
+    gives_nothing(&options.given) && options.soname.is_none() && keeps_all(options)
 }
 
-// Appends an output, where there is a path for it.
-fn push_output(
-    outputs: &mut Vec<Output>,
-    alloc: Global,
-    path: Option<&[u8]>,
-    bytes: Text,
-) -> Result<(), Memory>
-    ensures { OnOk result (outputs.new.items ≡ outputs.old.items ++ output_at (option_copied path.entry) bytes) }
+// Whether nothing of a target is given.
+fn gives_nothing(given: &Target) -> bool
+    ensures { result ≡ gives_nothing given.now }
 {
-    if let Some(path) = path {
-        let path = Text::from_slice(alloc, path)?;
-        outputs.push(Output { path, bytes })?;
+    given.triple.is_none()
+        && given.machine.is_none()
+        && given.order.is_none()
+        && given.width.is_none()
+}
+
+// Whether no symbol, needed library or size is left out.
+fn keeps_all(options: &AdjustOptions) -> bool
+    ensures { result ≡ keeps_all options.now }
+{
+    options.exclude.as_slice().is_empty()
+        && !options.strip_undefined
+        && !options.strip_needed
+        && !options.strip_size
+}
+
+// The interface under the options of the words.
+fn adjusted(
+    alloc: Global,
+    interface: Interface,
+    options: &AdjustOptions,
+) -> Result<Interface, Refusal>
+    requires { IsUsable options.now }
+    ensures { UnlessMemory refusals.Memory result (or_refused (codes "adjust") printed_adjust_cause (adjusted interface options.now)) }
+{
+    if changes_nothing(options) {
+        return Ok(interface);
     }
-    Ok(())
-}
-
-// Appends the text of an interface, where there is a path for it.
-fn push_text(
-    outputs: &mut Vec<Output>,
-    alloc: Global,
-    path: Option<&[u8]>,
-    interface: &Interface,
-) -> Result<(), Memory>
-    ensures { OnOk result (outputs.new.items ≡ outputs.old.items ++ output_at (option_copied path.entry) (printed_interface interface.now)) }
-{
-    if path.is_none() {
-        return Ok(());
+    match adjust(alloc, &interface, options) {
+        Ok(interface) => Ok(interface),
+        Err(AdjustCause::Memory) => Err(Refusal::Memory),
+        Err(cause) => {
+            let text = cause.printed(alloc)?;
+            Err(refuse(alloc, b"adjust", text.as_bytes(), 1))
+        }
     }
-    push_output(outputs, alloc, path, print(alloc, interface)?)
-}
-
-// The reply with the text and the stub library of an interface, each where it is asked for.
-fn reply_of(
-    alloc: Global,
-    request: Request<'_>,
-    interface: &Interface,
-    stub: Text,
-) -> Result<Reply, Memory>
-    ensures { IfOk result (λ reply. reply ≡ reply_of (asked request.entry) interface.now stub) }
-{
-    let mut outputs = Vec::new(alloc);
-    push_text(&mut outputs, alloc, request.text, interface)?;
-    push_output(&mut outputs, alloc, request.stub, stub)?;
-    Ok(Reply {
-        outputs: List::from_vec(outputs),
-        line: Text::new(alloc),
-        status: 0,
-    })
 }
 
 // The stub library, where it is asked for.
-fn stub_for(alloc: Global, path: Option<&[u8]>, interface: &Interface) -> Result<Text, StubCause>
+fn stub_for(alloc: Global, path: Option<&Text>, interface: &Interface) -> Result<Text, StubCause>
     ensures { UnlessMemory StubCause.Memory result (stub_for (option_copied path.entry) interface.now) }
 {
     match path {
@@ -112,64 +105,144 @@ fn stub_for(alloc: Global, path: Option<&[u8]>, interface: &Interface) -> Result
     }
 }
 
-// The reply to an interface.
-fn with_stub(alloc: Global, request: Request<'_>, interface: &Interface) -> Result<Reply, Memory>
-    ensures reply { IfOk result (λ reply. reply ≡ with_stub (asked request.entry) interface.now (stub_for (option_copied request.entry.stub) interface.now)) }
-    ensures status { IfOk result (λ reply. reply.status < 3) }
+// The same, or the refusal.
+fn stub_or_refused(
+    alloc: Global,
+    path: Option<&Text>,
+    interface: &Interface,
+) -> Result<Text, Refusal>
+    ensures { UnlessMemory refusals.Memory result (or_refused (codes "stub") printed_stub_cause (stub_for (option_copied path.entry) interface.now)) }
 {
-    match stub_for(alloc, request.stub, interface) {
-        Ok(stub) => reply_of(alloc, request, interface, stub),
-        Err(StubCause::Memory) => Err(Memory),
-        Err(cause) => fault(alloc, b"stub", cause.printed(alloc)?.as_bytes(), 1),
-    }
-}
-
-// The reply to a text, which is let go once it is read.
-fn by_text(alloc: Global, request: Request<'_>, text: Vec<u8>) -> Result<Reply, Memory>
-    ensures reply { IfOk result (λ reply. reply ≡ by_text (asked request.entry) (interface_of_text text.items)) }
-    ensures status { IfOk result (λ reply. reply.status < 3) }
-{
-    match read(alloc, &text) {
-        Ok(interface) => {
-            drop(text);
-            with_stub(alloc, request, &interface)
-        }
-        Err(TextCause::Memory) => Err(Memory),
+    match stub_for(alloc, path, interface) {
+        Ok(stub) => Ok(stub),
+        Err(StubCause::Memory) => Err(Refusal::Memory),
         Err(cause) => {
-            let cause = cause.printed(alloc)?;
-            fault(alloc, request.path, cause.as_bytes(), 1)
+            let text = cause.printed(alloc)?;
+            Err(refuse(alloc, b"stub", text.as_bytes(), 1))
         }
     }
 }
 
-// The reply to the bytes of a file, which are let go before the interface is made.
-fn by_bytes(alloc: Global, request: Request<'_>, bytes: Vec<u8>) -> Result<Reply, Memory>
-    ensures reply { IfOk result (λ reply. reply ≡ by_bytes (asked request.entry) bytes.items (library_of bytes.items)) }
-    ensures status { IfOk result (λ reply. reply.status < 3) }
+// The text of the interface with what is left of its target.
+fn stripped_text(alloc: Global, interface: &Interface, strip: &Strip) -> Result<Text, Memory>
+    ensures { IfOk result (λ text. text ≡ printed_interface (stripped interface.now strip.now)) }
 {
-    match Library::parse(alloc, &bytes) {
-        Ok(library) => {
-            drop(bytes);
-            let interface = interface_of(alloc, library)?;
-            with_stub(alloc, request, &interface)
-        }
-        Err(ElfCause::Memory) => Err(Memory),
-        Err(ElfCause::NotElf) => by_text(alloc, request, bytes),
-        Err(cause) => fault(alloc, request.path, cause.printed(alloc)?.as_bytes(), 1),
+    if strips_nothing(strip) {
+        print(alloc, interface)
+    } else {
+        print(alloc, &strip_target(alloc, interface, strip)?)
     }
 }
 
-/// The reply to what the words ask for.
-pub fn stub<F: Files>(alloc: Global, request: Request<'_>, files: &mut F) -> Result<Reply, Stop>
-    ensures answers { DecidesFor (asked request.entry) result (F.map files.old) (F.counts files.old) (F.counts files.new) }
+// Whether all of a target is left.
+fn strips_nothing(strip: &Strip) -> bool
+    ensures { result ≡ strips_nothing strip.now }
+{
+    !(strip.arch || strip.width || strip.order || strip.target)
+}
+
+// Appends an output, where there is a path for it.
+fn push_output(
+    outputs: &mut Vec<Output>,
+    alloc: Global,
+    path: Option<&[u8]>,
+    if_changed: bool,
+    bytes: Text,
+) -> Result<(), Memory>
+    ensures { OnOk result (outputs.new.items ≡ outputs.old.items ++ output_at (option_copied path.entry) if_changed bytes) }
+{
+    if let Some(path) = path {
+        outputs.push(Output {
+            path: Text::from_slice(alloc, path)?,
+            bytes,
+            if_changed,
+        })?;
+    }
+    Ok(())
+}
+
+// Where the text goes: to standard output where no output is asked for.
+fn text_path(words: &StubWords) -> Option<&[u8]>
+    ensures { option_copied result ≡ text_path words.now.output_ifs words.now.output_elf }
+{
+    match (&words.output_ifs, &words.output_elf) {
+        (Some(ifs), _) => Some(ifs.as_bytes()),
+        (None, Some(_)) => None,
+        (None, None) => Some(b"-"),
+    }
+}
+
+// Appends the text, where it is asked for.
+fn push_text(
+    outputs: &mut Vec<Output>,
+    alloc: Global,
+    words: &StubWords,
+    interface: &Interface,
+) -> Result<(), Memory>
+    ensures { OnOk result (outputs.new.items ≡ outputs.old.items ++ text_output words.now interface.now) }
+{
+    let path = text_path(words);
+    if path.is_none() {
+        return Ok(());
+    }
+    let text = stripped_text(alloc, interface, &words.strip)?;
+    push_output(outputs, alloc, path, words.write_if_changed, text)
+}
+
+// The reply with the text and the stub library, each where it is asked for.
+#[tactic(auto, unfolding(crate::specs::Stub::outputs_of))]
+fn outputs_of(
+    alloc: Global,
+    words: &StubWords,
+    interface: &Interface,
+    stub: Text,
+) -> Result<Reply, Memory>
+    ensures { IfOk result (λ reply. reply ≡ outputs_of words.now interface.now stub) }
+{
+    let mut outputs = Vec::new(alloc);
+    push_text(&mut outputs, alloc, words, interface)?;
+    let path = words.output_elf.as_ref().map(|path| path.as_bytes());
+    push_output(&mut outputs, alloc, path, words.write_if_changed, stub)?;
+    Ok(Reply {
+        outputs: List::from_vec(outputs),
+        line: Text::new(alloc),
+        status: 0,
+    })
+}
+
+// The reply to the inputs, which are let go.
+#[tactic(auto, unfolding(crate::specs::Stub::stub_of_inputs))]
+fn stub_of_inputs(alloc: Global, words: &StubWords, inputs: List<Input>) -> Result<Reply, Refusal>
+    requires some { 0 < length inputs }
+    requires usable { IsUsable words.now.adjust }
+    ensures { UnlessMemory refusals.Memory result (stub_of_inputs words.now inputs) }
+{
+    let interfaces = interfaces_in(alloc, words.input_format, inputs)?;
+    let whole = merged(alloc, interfaces)?;
+    let interface = adjusted(alloc, whole, &words.adjust)?;
+    let stub = stub_or_refused(alloc, words.output_elf.as_ref(), &interface)?;
+    Ok(outputs_of(alloc, words, &interface, stub)?)
+}
+
+// The reply, or that of a refusal.
+fn settled(reply: Result<Reply, Refusal>) -> Result<Reply, Stop>
+    ensures { Settles reply result }
+{
+    match reply {
+        Ok(reply) => Ok(reply),
+        Err(Refusal::Fault(reply)) => Ok(reply),
+        Err(Refusal::Memory) => Err(Stop::Memory),
+    }
+}
+
+/// The reply to the words of `stub`.
+pub fn stub<F: Files>(alloc: Global, words: &StubWords, files: &mut F) -> Result<Reply, Stop>
+    requires { CanStub words.now }
+    ensures answers { DecidesStub words.now result (F.map files.old) (F.counts files.old) (F.counts files.new) }
     ensures keeps { F.map files.new ≡ F.map files.old }
 {
-    let path = request.path;
-    match files.read(alloc, path, MOST_FILE_BYTES) {
-        Ok(bytes) => Ok(by_bytes(alloc, request, bytes)?),
-        Err(ReadCause::Missing) => Ok(fault(alloc, path, b"missing", 3)?),
-        Err(ReadCause::TooLarge) => Ok(fault(alloc, path, b"too large", 3)?),
-        Err(ReadCause::Failed) => Err(Stop::Unread(fault_line(alloc, path, b"read failed")?)),
-        Err(ReadCause::Memory) => Err(Stop::Memory),
+    match read_inputs(alloc, words.inputs.as_slice(), files)? {
+        Ok(inputs) => settled(stub_of_inputs(alloc, words, inputs)),
+        Err(refusal) => settled(Err(refusal)),
     }
 }

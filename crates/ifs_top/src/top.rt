@@ -1,26 +1,28 @@
 //! The top call.
 
 ghost use Rattle.std.specs.Prelude.{◌≡◌, ◌⊎◌, map, string_bytes};
-ghost use Rattle.ifs_top.specs.Command.{asked_by};
+ghost use Rattle.ifs_words.specs.Words.{words_of};
 ghost use Rattle.ifs_top.specs.Runs.{Runs, outside};
 ghost use Rattle.ifs_top.specs.Steps.{Decides};
 
 use crate::deliver::{deliver, stopped};
+use crate::refusal::Stop;
 use crate::reply::{Reply, fault};
-use crate::stub::{Stop, stub};
-use crate::words::asked_by;
+use crate::stub::stub;
 use ifs_outside::{Files, Sink, Source};
+use ifs_words::{Command, WordCause};
 use std::alloc::Global;
 
 // What the words ask for.
 fn decide<F: Files>(alloc: Global, words: &[String], files: &mut F) -> Result<Reply, Stop>
-    ensures answers { Decides (asked_by (map string_bytes words.now)) result (F.map files.old)
+    ensures answers { Decides (words_of (map string_bytes words.now)) result (F.map files.old)
         (F.counts files.old) (F.counts files.new) }
     ensures keeps { F.map files.new ≡ F.map files.old }
 {
-    match asked_by(words) {
-        Some(request) => stub(alloc, request, files),
-        None => Ok(fault(alloc, b"words", b"NotYet", 2)?),
+    match Command::parse(alloc, words) {
+        Ok(Command::Stub(words)) => stub(alloc, &words, files),
+        Err(WordCause::Memory) => Err(Stop::Memory),
+        Err(cause) => Ok(fault(alloc, b"words", cause.printed(alloc)?.as_bytes(), 2)?),
     }
 }
 
@@ -36,7 +38,7 @@ pub fn run<S: Source, F: Files, K: Sink, E: Sink>(
     out: &mut K,
     err: &mut E,
 ) -> u8
-    ensures { Runs (asked_by (map string_bytes words.now)) result
+    ensures { Runs (words_of (map string_bytes words.now)) result
         (outside (S.left input.old) (S.faults input.old) (K.written out.old) (K.faults out.old)
         (F.map files.old) (F.counts files.old) (E.written err.old) (E.faults err.old))
         (outside (S.left input.new) (S.faults input.new) (K.written out.new) (K.faults out.new)

@@ -1,6 +1,6 @@
--- The adjustment of a command that was read is one that interfaces may have: each value was looked at when it was read, and a
--- triple stands alone.
-use Rattle.std.proofs.Common.{refl, subst, ◌≡◌, ℕ, Bool, true, false, not, ◌&&◌, ◌||◌, List, [], ◌∷◌, Option, Some, None, Result, Ok, Err, IfOk, inl, inr}
+-- A command that was read has an input, and its adjustment is one that interfaces may have: each value was looked at when it
+-- was read, and a triple stands alone.
+use Rattle.std.proofs.Common.{refl, subst, ◌≡◌, ◌<◌, ℕ, length, arith, Bool, true, false, not, ◌&&◌, ◌||◌, List, [], ◌∷◌, Option, Some, None, Result, Ok, Err, IfOk, inl, inr}
 use Rattle.std.specs.Prelude.{codes, nat_eq, is_some, if◌then◌else◌}
 use Rattle.std.specs.List.{list_all, starts_with}
 use Rattle.std.specs.Str.{bytes_eq}
@@ -24,7 +24,7 @@ use Rattle.ifs_words.specs.Settings.{row_of, name_of, setting_named, stub_settin
 use Rattle.ifs_words.specs.Values.{is_good}
 use Rattle.ifs_words.specs.Reading.{awaiting, ended, given, has, is_of, known, known_in, name_in, nothing, read_from, valued, value_in, value_of, with_any, with_given, with_option, with_path, with_word}
 use Rattle.ifs_words.specs.Stub.{adjustment, given_target, no_conflict, paths_fit, stub_of, stub_words}
-use Rattle.ifs_words.specs.Usable.{CanAdjust, IsUsable}
+use Rattle.ifs_words.specs.Usable.{CanRun, CanStub, IsUsable}
 use Rattle.ifs_words.specs.Words.{as_stub, words_of}
 
 -- ---- what holds of a value that a reading gives
@@ -44,10 +44,6 @@ bound (Err e) f P Q p h = tt
 either : {A E : Type 0} (b : Bool) (x y : Result A E) (P : A → Type 0) → IfOk x P → IfOk y P → IfOk (if b then x else y) P
 either true x y P p q = p
 either false x y P p q = q
-
-anything : {A E : Type 0} (r : Result A E) → IfOk r (λ _. Unit {0})
-anything (Ok x) = tt
-anything (Err e) = tt
 
 -- ---- each value that was read is good
 
@@ -179,23 +175,28 @@ usable gs all alone = record {
   target = proper_target gs _ all alone refl;
 }
 
-stub_usable : (words : List (List ℕ)) → IfOk (stub_of words) (λ w. IsUsable w.adjust)
+some_path : (paths : List (List ℕ)) → IfOk (paths_fit paths) (λ _. 0 < length paths)
+unfolding paths_fit
+some_path [] = tt
+some_path (p ∷ ps) = checked_last _ _ (λ _. 0 < length (p ∷ ps)) (omega arith)
+
+stub_usable : (words : List (List ℕ)) → IfOk (stub_of words) CanStub
 unfolding stub_of stub_words
 stub_usable words =
-    bound (read_from stub_settings words nothing) _ AllGood (λ w. IsUsable w.adjust) (read_from_good stub_settings words nothing refl) (λ r all.
-    bound (no_conflict r.given) _ (λ _. Alone r.given) (λ w. IsUsable w.adjust) (no_conflict_alone r.given) (λ _ alone.
-    bound (paths_fit r.paths) _ (λ _. Unit {0}) (λ w. IsUsable w.adjust) (anything (paths_fit r.paths)) (λ _ _. usable r.given all alone)))
+    bound (read_from stub_settings words nothing) _ AllGood CanStub (read_from_good stub_settings words nothing refl) (λ r all.
+    bound (no_conflict r.given) _ (λ _. Alone r.given) CanStub (no_conflict_alone r.given) (λ _ alone.
+    bound (paths_fit r.paths) _ (λ _. 0 < length r.paths) CanStub (some_path r.paths) (λ _ some. record { inputs = some; adjust = usable r.given all alone })))
 
-as_stub_usable : (r : Result StubWords WordCause) → IfOk r (λ w. IsUsable w.adjust) → IfOk (as_stub r) CanAdjust
+as_stub_usable : (r : Result StubWords WordCause) → IfOk r CanStub → IfOk (as_stub r) CanRun
 as_stub_usable (Ok w) p = p
 as_stub_usable (Err e) p = tt
 
-commands_are_usable : (words : List (List ℕ)) → IfOk (words_of words) CanAdjust
+commands_are_usable : (words : List (List ℕ)) → IfOk (words_of words) CanRun
 commands_are_usable [] = tt
 commands_are_usable (c ∷ words) =
-    either (bytes_eq c (codes "stub")) (as_stub (stub_of words)) (Err (causes.UnknownCommand c)) CanAdjust (as_stub_usable (stub_of words) (stub_usable words)) tt
+    either (bytes_eq c (codes "stub")) (as_stub (stub_of words)) (Err (causes.UnknownCommand c)) CanRun (as_stub_usable (stub_of words) (stub_usable words)) tt
 
--- every command that words ask for can adjust
-pub parsed_is_usable : (words : List (List ℕ)) (result : Result Command WordCause) → UnlessMemory causes.Memory result (words_of words) → IfOk result CanAdjust
+-- every command that words ask for can be run
+pub parsed_is_usable : (words : List (List ℕ)) (result : Result Command WordCause) → UnlessMemory causes.Memory result (words_of words) → IfOk result CanRun
 parsed_is_usable words result (inl e) = rw e tt
 parsed_is_usable words result (inr e) = rw e (commands_are_usable words)

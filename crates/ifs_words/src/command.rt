@@ -2,7 +2,7 @@
 
 ghost use Rattle.std.specs.Prelude.{IfOk, map, string_bytes};
 ghost use Rattle.ifs_bytes.specs.Outcome.{UnlessMemory};
-ghost use Rattle.ifs_words.specs.Usable.{CanAdjust};
+ghost use Rattle.ifs_words.specs.Usable.{CanRun};
 ghost use Rattle.ifs_words.specs.Words.{words_of};
 
 use crate::cause::WordCause;
@@ -52,7 +52,7 @@ impl Command {
     /// option and a value in the word behind it are one word here.
     pub fn parse(alloc: Global, words: &[String]) -> Result<Command, WordCause>
         ensures meant { UnlessMemory WordCause.Memory result (words_of (map string_bytes words.now)) }
-        ensures usable { IfOk result CanAdjust }
+        ensures usable { IfOk result CanRun }
     {
         command_of(alloc, words)
     }

@@ -1,11 +1,11 @@
 use Rattle.std.specs.Prelude.{map, string_bytes}
-use Rattle.ifs_top.specs.Command.{asked_by}
+use Rattle.ifs_words.specs.Words.{words_of}
 use Rattle.ifs_top.proofs.Sentences.{replied, stopped_run}
 use Rattle.ifs_top.proofs.top.run.Goals as goal
 
 pub returns-in-Ok : goal.returns-in-Ok
 returns-in-Ok g c =
-    replied (asked_by (map string_bytes c.args.words.now)) c.in-Ok.reply c.deliver.result
+    replied (words_of (map string_bytes c.args.words.now)) c.in-Ok.reply c.deliver.result
     (g.S.Source.left c.args.input.now) (g.S.Source.faults c.args.input.now)
     (g.K.Sink.written c.args.out.now) (g.K.Sink.faults c.args.out.now)
     (g.F.Files.map c.args.files.now) (g.F.Files.map c.decide.new.files)
@@ -16,7 +16,7 @@ returns-in-Ok g c =
 
 pub returns-in-Err : goal.returns-in-Err
 returns-in-Err g c =
-    stopped_run (asked_by (map string_bytes c.args.words.now)) c.in-Err.stop c.stopped.result
+    stopped_run (words_of (map string_bytes c.args.words.now)) c.in-Err.stop c.stopped.result
     (g.S.Source.left c.args.input.now) (g.S.Source.faults c.args.input.now)
     (g.K.Sink.written c.args.out.now) (g.K.Sink.faults c.args.out.now)
     (g.F.Files.map c.args.files.now) (g.F.Files.map c.decide.new.files)
