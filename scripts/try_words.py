@@ -230,6 +230,8 @@ CAUSES = [
     ("BadValue(--exclude)", ["--exclude", "[b-a]", "F"]),
     ("BadValue(--exclude)", ["--exclude=", "F"]),
     ("BadValue(--exclude)", ["--exclude=a\\", "F"]),
+    ("BadValue(--exclude)", ["--exclude=[]]", "F"]),
+    ("BadValue(--exclude)", ["--exclude=[!]", "F"]),
     ("BadValue(--output-ifs)", "--output-ifs= F"),
     ("BadValue(--output-elf)", ["--output-elf", "", "F"]),
     ("BadValue(--soname)", "--soname= F"),
