@@ -256,12 +256,12 @@ def machine(peer, load):
             f"{memory:.0f} GiB of memory, {system}, {beside}.{busy}")
 
 
-def fill(readme, text):
+def fill(readme, text, marks=MARKS):
     """Puts the text between the marks."""
     page = readme.read_text(encoding="utf-8")
-    before, rest = page.split(MARKS[0])
-    after = rest.split(MARKS[1])[1]
-    readme.write_text(f"{before}{MARKS[0]}\n{text}\n{MARKS[1]}{after}", encoding="utf-8")
+    before, rest = page.split(marks[0])
+    after = rest.split(marks[1])[1]
+    readme.write_text(f"{before}{marks[0]}\n{text}\n{marks[1]}{after}", encoding="utf-8")
 
 
 def words():

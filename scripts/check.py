@@ -16,7 +16,12 @@ OWN = Path(__file__).resolve()
 TEXTS = {".md", ".rt", ".antt", ".edit", ".py", ".sh", ".1", ".txt", ""}
 # The repository stands alone: no paper of the task is cited by a page, a letter or a number.
 CITATION = re.compile(r"[Dd]ocument 0[1-4]\b|\b0[1-4] [A-L]\b|shared/(?:spec|design)|\b[Dd]emand \d|\brequest R\d")
-PAPERS = ["README.md", *(f"docs/{name}" for name in ("ARCHITECTURE.md", "DECISIONS.md"))]
+PAPERS = ["README.md", *(f"docs/{name}" for name in ("ARCHITECTURE.md", "DECISIONS.md", "coming-from-llvm-ifs.md"))]
+
+CAUSES = {"ifs_words/specs/Printed.antt": "docs/format/words.md", "ifs_edit/specs/Printed.antt": "docs/format/edits.md",
+          "ifs_stub/specs/Printed.antt": "docs/format/stub-file.md", "elf_file/specs/Printed.antt": "docs/format/elf-library.md",
+          "ifs_text/specs/Cause.antt": "docs/format/ifs-text.md"}
+UNSEEN = {"BadGlob", "MissingOption"}
 
 
 def text_of(path):
@@ -108,11 +113,30 @@ def named_words():
                     yield f"{paper} names {span}, which the code doesn't"
 
 
+def told_options():
+    """Each option of the code stands in the page of words and in the manual."""
+    for option in re.findall(r'codes "(--[\w-]+)"', text_of("crates/ifs_words/specs/Settings.antt")):
+        for paper in ("docs/format/words.md", "docs/ifs.1"):
+            if option not in text_of(paper).replace("\\-", "-"):
+                yield f"{paper} says nothing of {option}"
+
+
+def told_causes():
+    """Each cause that is printed stands in the page of its format, and in the manual unless no line has it yet."""
+    for module, paper in CAUSES.items():
+        for cause in re.findall(r'^printed_\w+_cause .*codes "([A-Z]\w+)', text_of(f"crates/{module}"), re.M):
+            papers = [paper] if cause in UNSEEN else [paper, "docs/ifs.1"]
+            for each in papers if cause != "Memory" else []:
+                if not re.search(rf"\b{cause}\b", text_of(each)):
+                    yield f"{each} says nothing of the cause {cause}"
+
+
 def readme():
     page = text_of("README.md")
     if text_of("crates/ifs/stdout") not in page:
         yield "README.md doesn't show what the program prints of crates/ifs/data/libfoo.so"
-    for mark in ("<!-- bench/stub.py fills this -->", "<!-- up to here -->"):
+    for mark in ("<!-- bench/stub.py fills this -->", "<!-- up to here -->",
+                 "<!-- bench/builds.py fills this -->", "<!-- bench/builds.py ends here -->"):
         if page.count(mark) != 1:
             yield f"README.md has not just one {mark}"
 
@@ -135,7 +159,7 @@ def scripts():
 
 def main():
     found = [fault for check in (handles, citations, named_crates, edits, named_paths, named_definitions, named_words,
-                                 readme, manual, scripts) for fault in check()]
+                                 told_options, told_causes, readme, manual, scripts) for fault in check()]
     for fault in found:
         print(f"check: {fault}", file=sys.stderr)
     return 1 if found else 0

@@ -1,11 +1,12 @@
 #!/usr/bin/env python3
 """Runs the built program against the real file system, one fault at a time.
 
-Usage: scripts/try_files.py
+    scripts/try_files.py [--program PATH]
 
 Each case has the words, where standard output goes, and the status and the line that have to come. Ends with 0
 where all came so, with 1 where one didn't, and with 77 where the program isn't built.
 """
+import argparse
 import os
 import subprocess
 import sys
@@ -13,14 +14,8 @@ import tempfile
 from pathlib import Path
 
 TOP = Path(__file__).resolve().parent.parent
-PROGRAM = TOP / "crates/ifs/out/ifs"
 LIBRARY = TOP / "crates/ifs/data/libfoo.so"
 TEXT = (TOP / "crates/ifs/stdout").read_bytes()
-
-
-def run(words, out=subprocess.PIPE):
-    done = subprocess.run([PROGRAM, *words], stdout=out, stderr=subprocess.PIPE)
-    return done.returncode, done.stdout, done.stderr
 
 
 def closed_pipe():
@@ -30,19 +25,22 @@ def closed_pipe():
     return writer
 
 
-def as_nobody(words):
-    """The status and the line of a run without root's leave to read everything."""
-    def leave():
-        if os.geteuid() == 0:
-            os.setgid(65534)
-            os.setuid(65534)
-
-    done = subprocess.run([PROGRAM, *words], capture_output=True, preexec_fn=leave)
-    return done.returncode, done.stdout, done.stderr
+def leave_root():
+    """Gives up root's leave to read and write everything."""
+    if os.geteuid() == 0:
+        os.setgid(65534)
+        os.setuid(65534)
 
 
-def cases(folder):
+def cases(program, folder):
     """The name of each case, what came, and what has to come."""
+    def run(words, out=subprocess.PIPE, before=None):
+        done = subprocess.run([program, *words], stdout=out, stderr=subprocess.PIPE, preexec_fn=before)
+        return done.returncode, done.stdout, done.stderr
+
+    def as_nobody(words):
+        return run(words, before=leave_root)
+
     text, stub = folder / "o.ifs", folder / "o.so"
     yield "a text", run(["stub", "--output-ifs=-", LIBRARY]), (0, TEXT, b"")
     yield "two files", run(["stub", f"--output-elf={stub}", f"--output-ifs={text}", LIBRARY]), (0, b"", b"")
@@ -82,17 +80,30 @@ def cases(folder):
     status, out, err = run(["stub", f"--output-ifs={text}", damaged])
     yield "a damaged file", (status, out, err[:7 + len(bytes(damaged))]), (1, b"", b"error: " + bytes(damaged))
     yield "the file of an earlier run", (text.read_bytes(),), (before,)
-    yield "words", run(["stub"]), (2, b"", b"error: words: NotYet\n")
+    yield "no text where an output is named", run(["stub", f"--output-elf={stub}", LIBRARY]), (0, b"", b"")
+    yield "the text where none is", run(["stub", stub]), (0, TEXT, b"")
+    equal = folder / "equal.ifs"
+    equal.write_bytes(TEXT)
+    equal.chmod(0o444)
+    words = ["stub", "--write-if-changed", f"--output-ifs={equal}"]
+    yield "an equal file that can't be written", as_nobody([*words, LIBRARY]), (0, b"", b"")
+    yield "another one", as_nobody([*words, "--strip-size", LIBRARY]), (4, b"", b"error: %s: write failed\n" % bytes(equal))
+    equal.chmod(0o222)
+    yield "one that can't be compared", as_nobody([*words, LIBRARY]), (4, b"", b"error: %s: write failed\n" % bytes(equal))
+    yield "words", run(["stub"]), (2, b"", b"error: words: NoInput\n")
     yield "words that aren't UTF-8", run(["stub", "--output-ifs=-", b"\xff"]), (2, b"", b"error: words: not UTF-8\n")
 
 
 def main():
-    if not PROGRAM.exists():
+    parser = argparse.ArgumentParser(description=__doc__.split("\n\n")[0])
+    parser.add_argument("--program", default=str(TOP / "crates/ifs/out/ifs"), help="the built program")
+    program = Path(parser.parse_args().program).resolve()
+    if not program.is_file():
         print("skipped: the program isn't built")
         return 77
     wrong = count = 0
     with tempfile.TemporaryDirectory() as folder:
-        for name, came, wanted in cases(Path(folder)):
+        for name, came, wanted in cases(program, Path(folder)):
             count += 1
             if came != wanted:
                 wrong += 1
