@@ -467,8 +467,47 @@ fn writes_that_fail(rt: HostRuntime) -> Result<(), Fail> {
     Ok(())
 }
 
-// Whether a run of the words with a file writes the fixture's stub to `o`, and this on standard output.
-fn writes_stub(alloc: Global, line: &str, file: &[u8], printed: &[u8]) -> Result<bool, Memory> {
+// Names that aren't their own text, in no order, and as they are printed.
+const QUOTED: &[u8] = b"--- !ifs-v1\n\
+    IfsVersion: 3\n\
+    Symbols:\n\
+    - { Name: \"true\", Type: Func }\n\
+    - { Name: \"a\\tb\", Type: Func }\n\
+    - Name: it's\n  Type: Func\n\
+    - { Name: 'a: b', Type: Func }\n\
+    - { Name: \xc3\xa9, Type: Func }\n";
+
+const QUOTED_AS_PRINTED: &[u8] = b"--- !ifs-v1\n\
+    IfsVersion:      3.0\n\
+    Symbols:\n  \
+      - { Name: \"a\\x09b\", Type: Func }\n  \
+      - { Name: 'a: b', Type: Func }\n  \
+      - { Name: 'it''s', Type: Func }\n  \
+      - { Name: 'true', Type: Func }\n  \
+      - { Name: '\xc3\xa9', Type: Func }\n\
+    ...\n";
+
+#[test]
+fn names_in_quotes(rt: HostRuntime) -> Result<(), Fail> {
+    let printed = After {
+        status: 0,
+        out: QUOTED_AS_PRINTED,
+        err: b"",
+    };
+    for file in [QUOTED, QUOTED_AS_PRINTED] {
+        assert!(rt; ends(rt.alloc(), "stub F", holding(file), printed)?);
+    }
+    Ok(())
+}
+
+// Whether a run of the words with a file writes this stub to `o`, and this on standard output.
+fn writes_stub(
+    alloc: Global,
+    line: &str,
+    file: &[u8],
+    stub: &[u8],
+    printed: &[u8],
+) -> Result<bool, Memory> {
     let words = words_in(alloc, line)?;
     let mut input = MemorySource::new(Vec::new(alloc), Vec::new(alloc));
     let mut files = MemoryFiles::new(alloc, Vec::new(alloc));
@@ -481,7 +520,7 @@ fn writes_stub(alloc: Global, line: &str, file: &[u8], printed: &[u8]) -> Result
     }
     Ok(
         status == 0
-            && files.get(b"o") == Some(STUB)
+            && files.get(b"o") == Some(stub)
             && files.writes() == 1
             && out.written() == printed
             && err.written().is_empty(),
@@ -502,9 +541,12 @@ fn stub_files(rt: HostRuntime) -> Result<(), Fail> {
             ("stub --output-ifs - --output-elf o -- F F", &text),
             ("stub --strip-ifs-target --output-elf=o F", b""),
         ] {
-            assert!(rt; writes_stub(alloc, words, file, printed)?);
+            assert!(rt; writes_stub(alloc, words, file, STUB, printed)?);
         }
     }
+    let mut text = Vec::from_slice(alloc, START_32)?;
+    text.extend_from_slice(SYMBOLS)?;
+    assert!(rt; writes_stub(alloc, "stub --output-elf=o F", &text, STUB_32, b"")?);
     Ok(())
 }
 
