@@ -6,13 +6,14 @@ Usage: scripts/link_stubs.py
 For each machine whose gcc is installed (x86-64, and of Debian's cross compilers AArch64, i386, a big-endian one)
 a small library is compiled, its stub written, and then:
 - readelf -aW of the stub prints no warning;
-- each linker that is there (ld.bfd, gold, lld) links a small program, compiled with -fPIE and with -fPIC, against the
-  library and against the stub, and both programs want the same names and need the same libraries;
+- each linker that is there (ld.bfd, gold, lld) links small programs, compiled with -fPIE and with -fPIC, against the
+  library and against the stub, and both programs want the same names, need the same libraries and copy the same data;
 - the stub of the stub is the stub, and its text is the library's.
 
-Ends with 0 where all agree but for what docs/DECISIONS.md tells of, with 1 where something doesn't, and with 77 where
-nothing could be tried.
+Ends with 0 where all agree but for what docs/DECISIONS.md tells of (`known`), with 1 where something doesn't, and with
+77 where nothing could be tried.
 """
+import collections
 import itertools
 import re
 import shutil
@@ -25,21 +26,20 @@ TOP = Path(__file__).resolve().parent.parent
 PROGRAM = TOP / "crates/ifs/out/ifs"
 COMPILERS = ["x86_64-linux-gnu-gcc", "aarch64-linux-gnu-gcc", "i686-linux-gnu-gcc", "s390x-linux-gnu-gcc", "powerpc-linux-gnu-gcc"]
 LINKERS = ["bfd", "gold", "lld"]
-MODELS = ["-fPIE", "-fPIC"]  # how the small program is compiled: by the one it may have a copy of the library's data
-# What docs/DECISIONS.md tells of: lld's refusal of programs that have a copy of data, and readelf's hash words for s390x.
-KNOWN = ["relocation R_X86_64_PLT32 out of range", "readelf: Error: Invalid number of dynamic entries"]
+MODELS = ["-fPIE", "-fPIC"]  # with -fPIE a program may have copies of the library's data
 LIBRARY = """
-int counter = 3;
+int counter = 3, other = 4;
+__attribute__((weak)) int spare = 5;
 __thread int local = 4;
 int twice(int x) { return 2 * x; }
 __attribute__((weak)) int maybe(int x) { return x; }
 __attribute__((visibility("hidden"))) int hidden(void) { return 1; }
 """
-CLIENT = """
-extern int counter;
-extern int twice(int), maybe(int);
-int main(void) { return twice(counter) + maybe(1); }
-"""
+CLIENTS = {
+    "functions": "extern int twice(int), maybe(int); int main(void) { return twice(1) + maybe(1); }",
+    "data": "extern int counter, twice(int); int main(void) { return twice(counter); }",
+    "weak data": "extern int spare; int main(void) { return spare; }",
+}
 
 
 def run(*command):
@@ -47,9 +47,9 @@ def run(*command):
 
 
 def wants(program):
-    """The undefined names of a program and the libraries that it needs."""
+    """The undefined names of a program and those of data that it copies, and the libraries that it needs."""
     rows = run("readelf", "--dyn-syms", "-W", program).stdout
-    names = sorted(re.findall(r" UND (\w+)", rows))
+    names = sorted({*re.findall(r" UND (\w+)", rows), *re.findall(r"OBJECT .* (\w+)$", rows, re.M)})
     needed = re.findall(r"\(NEEDED\).*\[(.*)\]", run("readelf", "-d", "-W", program).stdout)
     return names, needed
 
@@ -57,7 +57,8 @@ def wants(program):
 def made_library(compiler, folder):
     """The library, its stub and its text, or why there is none."""
     (folder / "lib.c").write_text(LIBRARY)
-    (folder / "main.c").write_text(CLIENT)
+    for name, source in CLIENTS.items():
+        (folder / f"{name}.c").write_text(source)
     lld = shutil.which("ld.lld") or shutil.which("ld.lld-14")
     if lld:
         (folder / "ld.lld").symlink_to(lld)  # it links for all machines, and cross compilers look for it by another name
@@ -84,39 +85,51 @@ def stub_faults(stub, text, folder):
         yield "the stub of the stub is another file"
 
 
-def linked(compiler, linker, model, folder, side):
+def linked(compiler, linker, model, client, side):
     """What the program wants that is linked against this side, or why it isn't linked."""
-    program = folder / "program"
-    done = run(compiler, f"-B{folder}", f"-fuse-ld={linker}", "-nostartfiles", "-nostdlib", model, "-pie", "-Wl,-e,main", "-o", program,
-               folder / "main.c", side)
+    program = client.with_suffix("")
+    done = run(compiler, f"-B{client.parent}", f"-fuse-ld={linker}", "-nostartfiles", "-nostdlib", model, "-pie", "-Wl,-e,main",
+               "-o", program, client, side)
     return (wants(program), None) if done.returncode == 0 else (None, done.stderr.strip())
 
 
+def try_client(compiler, linker, model, client, library, stub):
+    """What is wrong with the client that is linked against the stub; None where it isn't even linked against the library."""
+    by_library, fault = linked(compiler, linker, model, client, library)
+    if fault:
+        return None  # this linker isn't there, or doesn't know the machine
+    by_stub, fault = linked(compiler, linker, model, client, stub)
+    if fault:
+        return f"refuses the stub: {fault}"
+    return "" if by_library == by_stub else f"differs: {by_library} by the library, {by_stub} by the stub"
+
+
+def is_known_link(linker, model, client):
+    """Whether docs/DECISIONS.md tells of differences here: copies of data, and ld.bfd with data that is weak."""
+    return client != "functions" and model == "-fPIE" or client == "weak data" and linker == "bfd"
+
+
+def is_known_warning(fault):
+    """Whether docs/DECISIONS.md tells of it: readelf and the hash words of s390x."""
+    return "Invalid number of dynamic entries" in fault
+
+
 def try_machine(compiler, folder):
-    """What went wrong, and the linkers that agree."""
+    """The faults that are known, the others, and how often linkers agree."""
     made, fault = made_library(compiler, folder)
     if fault:
-        return [fault], []
+        return [], [fault], {}
     library, stub, text = made
-    wrong, agree = list(stub_faults(stub, text, folder)), []
-    for linker, model in itertools.product(LINKERS, MODELS):
-        by_library, fault = linked(compiler, linker, model, folder, library)
+    known, wrong, agree = [], [], collections.Counter()
+    for fault in stub_faults(stub, text, folder):
+        (known if is_known_warning(fault) else wrong).append(fault)
+    for linker, model, client in itertools.product(LINKERS, MODELS, CLIENTS):
+        fault = try_client(compiler, linker, model, folder / f"{client}.c", library, stub)
         if fault:
-            continue  # this linker isn't there, or doesn't know the machine
-        by_stub, fault = linked(compiler, linker, model, folder, stub)
-        if fault:
-            wrong.append(f"{linker} {model} refuses the stub: {fault}")
-        elif by_library != by_stub:
-            wrong.append(f"{linker} {model}: the programs differ: {by_library}, {by_stub}")
-        else:
-            agree.append(f"{linker} {model}")
-    return wrong, agree
-
-
-def is_known(fault):
-    """Whether the papers tell of a fault: each of its lines that says error does so."""
-    errors = [line for line in fault.splitlines() if "rror: " in line and "collect2" not in line]
-    return bool(errors) and all(any(told in line for told in KNOWN) for line in errors)
+            (known if is_known_link(linker, model, client) else wrong).append(f"{linker} {model}, {client}: {fault}")
+        elif fault is not None:
+            agree[linker] += 1
+    return known, wrong, agree
 
 
 def main():
@@ -129,12 +142,13 @@ def main():
             print(f"{compiler}: not installed")
             continue
         with tempfile.TemporaryDirectory() as folder:
-            wrong, agree = try_machine(compiler, Path(folder))
-        print(f"{compiler}: {', '.join(agree) or 'no linkers'} agree")
-        unknown = [fault for fault in wrong if not is_known(fault)]
-        for fault in wrong:
-            print(f"  {'' if fault in unknown else 'known: '}{fault}")
-        status = 1 if unknown else (0 if status == 77 else status)
+            known, wrong, agree = try_machine(compiler, Path(folder))
+        counts = ", ".join(f"{linker} {count}" for linker, count in agree.items())
+        print(f"{compiler}: of {len(MODELS) * len(CLIENTS)} programs agree by {counts or 'no linker'}")
+        for sort, faults in (("known", known), ("WRONG", wrong)):
+            for fault in faults:
+                print(f"  {sort}: {fault}")
+        status = 1 if wrong else (0 if status == 77 else status)
     return status
 
 
