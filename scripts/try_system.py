@@ -10,8 +10,9 @@ printed text are compared with what readelf says of the file, by the rules of do
 written here once more. With --segments a copy of each library is run too, whose header says that it has no section
 headers. It has to give the same text, but where the library's only hash table, a GNU one, names no row and so
 doesn't tell how many there are. With --stubs the stub of each library is written and read. It has to give the same
-text, but for the types that a stub doesn't tell. The status is 1 where something differs, or where a run ended
-otherwise than with a text or a line of refusal, and 77 where the built program is missing.
+text, but for the types that a stub doesn't tell, and what readelf warns of in stubs is told. The status is 1 where
+something differs, or where a run ended otherwise than with a text or a line of refusal, and 77 where the built program
+is missing.
 """
 import argparse
 import collections
@@ -117,6 +118,12 @@ def readelf(path, *options):
     return done.stdout.decode("latin-1")
 
 
+def warnings_of(path):
+    """What readelf warns of in a file, without numbers."""
+    done = subprocess.run(["readelf", "-aW", path], capture_output=True, env={**os.environ, "LC_ALL": "C.UTF-8"})
+    return sorted({re.sub(r"\d+", "N", line) for line in done.stderr.decode("latin-1").split("\n") if line})
+
+
 def rows_told(path):
     """The symbol table, by sections, or by segments where there are none."""
     return readelf(path, "--dyn-syms") or readelf(path, "-D", "--syms")
@@ -186,6 +193,7 @@ class Tally:
         self.args, self.compares = args, shutil.which("readelf") is not None
         self.printed, self.refused = 0, collections.Counter()
         self.differing, self.wrong, self.same_copies, self.uncounted, self.same_stubs = 0, 0, 0, 0, 0
+        self.warned = collections.Counter()
 
     def run(self, path):
         return subprocess.run([self.args.program, "stub", "--output-ifs=-", path], capture_output=True)
@@ -235,6 +243,9 @@ class Tally:
         else:
             self.differing += 1
             print(f"differs: {path}: by its stub, {written.stderr!r}, {done.stderr!r}")
+        if self.compares:
+            arch = interface_of(text.decode("latin-1"))["target"]["Arch"]
+            self.warned.update((arch, warning) for warning in warnings_of(copy))
 
     def told(self):
         yield f"{self.printed} printed, {sum(self.refused.values())} refused, {self.wrong} ended otherwise"
@@ -246,6 +257,10 @@ class Tally:
                    f"{self.uncounted} no hash table that counts their rows")
         if self.args.stubs:
             yield f"{self.same_stubs} have the same text by their stubs"
+            for (arch, warning), count in self.warned.most_common():
+                yield f"  {count} stubs for {arch}: {warning}"
+            if self.compares and not self.warned:
+                yield "readelf warns of none of the stubs"
 
 
 def counts_no_row(path, text):

@@ -6,6 +6,10 @@
 //! alone, and each is a fact on places of the whole file. Names are counted before any is copied, by where the next NUL
 //! is (`names`), since they may overlap. What was read keeps its rows by name too (`by_name`), so that a link can ask of
 //! each name what it is (`facts`).
+//!
+//! A body that always answers that memory ran out meets the contract of each function that takes memory
+//! (`visible_rows`, `candidate_bytes`, `needed_of`, `needed_bytes`, `Lengths::new`, `places_by_name`, `defined_places` and
+//! those that call them): that calls succeed is tested.
 #![tactic(auto)]
 
 mod addresses;

@@ -10,9 +10,9 @@ mod cases;
 mod fixtures;
 
 use cases::{
-    BY_ADDRESS, CUT, CUT_BARE, Cut, Damage, FACTS, Facts, GNU_32_NAMES, GNU_DAMAGE, GNU_NAMES,
-    LOADED_ROWS, NAMES, Names, QUIRKS_ROWS, SECTION_DAMAGE, SEGMENT_DAMAGE, STUB_ROWS, SeenRow,
-    TWICE_WANTED,
+    Answer, BY_ADDRESS, DAMAGED, Damage, Damaged, FACTS, Facts, File, GNU_32_NAMES, GNU_DAMAGE,
+    GNU_NAMES, LOADED_ROWS, NAMES, Names, QUIRKS_ROWS, SECTION_DAMAGE, SEGMENT_DAMAGE, STUB_ROWS,
+    SeenRow, TWICE_WANTED,
 };
 use fixtures::{FOO, GNU, PPC_STUB, QUIRKS, STUB};
 
@@ -262,26 +262,62 @@ fn the_dynamic_section_comes_first(rt: HostRuntime) -> Result<(), Fail> {
     Ok(())
 }
 
-// The answer of the first bytes of a file.
-fn cause_of_first(alloc: Global, file: &[u8], len: usize) -> Option<ElfCause> {
-    let (front, _) = file.split_at(len.min(file.len()));
-    Library::parse(alloc, front).err()
-}
-
-// The first bytes of a file are answered so.
-fn is_cut(rt: &(impl Abort + AllocGlobal), file: &[u8], table: &[Cut]) {
-    for &(from, end, wanted) in table {
-        for len in from..end {
-            let cause = cause_of_first(rt.alloc(), file, len);
-            assert!(rt; cause == wanted, "at {len}: {cause:?}");
-        }
+fn file_of(alloc: Global, file: File) -> Result<Vec<u8>, Memory> {
+    match file {
+        File::Stub => Ok(Vec::from_slice(alloc, &STUB)?),
+        File::BareStub => bare_stub(alloc),
+        File::Gnu => Ok(Vec::from_slice(alloc, &GNU)?),
     }
 }
 
+// Whether the library, which has two rows, wants nothing and needs nothing.
+fn wants_nothing(library: &Library) -> bool {
+    library.needed_len() == 0
+        && library.wanted_len() == 2
+        && library.wanted(0).is_none()
+        && library.wanted(1).is_none()
+}
+
+// Whether the library has the facts of the stub.
+fn has_stub_facts(library: &Library) -> bool {
+    library.machine_number() == 62
+        && library.soname() == Some(b"libfoo.so".as_slice())
+        && library.fact(b"bar") == Some(Fact::Object)
+        && library.fact(b"foo") == Some(Fact::Func)
+        && wants_nothing(library)
+}
+
+fn is_answer(read: &Result<Library, ElfCause>, answer: Answer) -> bool {
+    match (read, answer) {
+        (Err(cause), Answer::Refused(wanted)) => *cause == wanted,
+        (Ok(library), Answer::StubFacts) => has_stub_facts(library),
+        (Ok(library), Answer::NoNames) => library.soname().is_none() && library.rows().is_empty(),
+        _ => false,
+    }
+}
+
+// The file, changed and cut, is answered so.
+fn is_answered(
+    rt: &(impl Abort + AllocGlobal),
+    (file, at, bytes, from, end, answer): Damaged,
+) -> Result<(), Memory> {
+    let damaged = patched(rt.alloc(), &file_of(rt.alloc(), file)?, at, bytes)?;
+    for len in from..end {
+        let (front, _) = damaged.split_at(len.min(damaged.len()));
+        let read = Library::parse(rt.alloc(), front);
+        assert!(rt;
+            is_answer(&read, answer),
+            "{bytes:?} at {at}, {len} bytes: {read:?}"
+        );
+    }
+    Ok(())
+}
+
 #[test]
-fn files_that_are_cut(rt: HostRuntime) -> Result<(), Fail> {
-    is_cut(&rt, &STUB, &CUT);
-    is_cut(&rt, &bare_stub(rt.alloc())?, &CUT_BARE);
+fn files_that_are_cut_or_damaged(rt: HostRuntime) -> Result<(), Fail> {
+    for damaged in DAMAGED {
+        is_answered(&rt, damaged)?;
+    }
     Ok(())
 }
 

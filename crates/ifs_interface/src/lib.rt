@@ -4,6 +4,9 @@
 //! one `Symbol` a name, by specs/Extracted.antt, and an `Interface` keeps it with the soname, the target and
 //! the needed libraries. Readers of files give records, and everything above speaks of records and
 //! interfaces alone.
+//!
+//! A body that always answers that memory ran out meets the contracts of `put_arch` and of the copies: that these succeed
+//! is tested.
 #![tactic(auto)]
 
 mod arch;

@@ -265,7 +265,7 @@ extracted_have_stubs file library bytes is =
     let from = read.2 in
     subst (λ l. HasStub (interface_of l) (form_of_library l)) from.is (has_stub file read.0 read.1 (entry_count file read.1.entries) bytes from.header from.places from.sound)
 
-form_is : (library : LibraryRecord) → form_of (parts_of (interface_of library).target) ≡ Ok (form_of_library library)
+pub form_is : (library : LibraryRecord) → form_of (parts_of (interface_of library).target) ≡ Ok (form_of_library library)
 unfolding form_of interface_of
 form_is library = refl
 

@@ -1,5 +1,5 @@
 -- An interface that was extracted has the facts of its library.
-use Rattle.std.proofs.Common.{◌≡◌, ℕ, ◌==◌, Bool, true, false, not, cond, ◌&&◌, ◌||◌, List, [], ◌∷◌, map, find, Option, Some, None, refl, sym, ap, ◌∙◌}
+use Rattle.std.proofs.Common.{◌≡◌, ℕ, ◌==◌, Bool, true, false, not, cond, ◌&&◌, ◌||◌, List, [], ◌∷◌, map, find, Option, Some, None, Ok, refl, sym, ap, ◌∙◌}
 use Rattle.std.specs.Prelude.{option_map, option_and_then, if◌then◌else◌}
 use Rattle.std.specs.List.{list_all, list_any}
 use Rattle.std.proofs.lemmas.Bool.{eqb-true}
@@ -13,7 +13,13 @@ use Rattle.ifs_interface.specs.declared.symbol.Kind.TheVariants.{NoType, Func, O
 use Rattle.ifs_interface.specs.declared.symbol.Symbol.{Symbol}
 use Rattle.ifs_interface.proofs.Lists.{has_some, any_map_of, any_by_filter}
 use Rattle.ifs_interface.proofs.Names.{same_name-is}
-use Rattle.ifs_stub.proofs.Extracted.{described_name}
+use Rattle.elf_dyn.specs.Library.{library_of}
+use Rattle.elf_dyn.specs.Rank.{are_bytes}
+use Rattle.ifs_stub.specs.Laws.{form_of_library, facts_in}
+use Rattle.ifs_stub.specs.Stub.{stub_of}
+use Rattle.ifs_stub.proofs.Extracted.{described_name, form_is, extracted_have_stubs, extracted_are_made}
+use Rattle.ifs_stub.proofs.ReadBack.Stubs.{written_has_the_facts}
+use Rattle.ifs_stub.proofs.Steps.{ok_is}
 use Rattle.ifs_interface.proofs.InOrder.{has, has_in_order}
 
 -- ---- the symbol of a name
@@ -115,3 +121,11 @@ extracted_keep_facts library k = record {
   fact_of = λ name. same_defined library.rows name k;
   wanted_of = λ name. same_wanted library.rows name k;
 }
+
+pub stubs_of_libraries_have_their_facts : (file stub : List ℕ) (library : LibraryRecord) → are_bytes file ≡ true → library_of file ≡ Ok library → stub_of (interface_of library) ≡ Ok stub → facts_in stub ≡ Ok (facts_of_library library)
+stubs_of_libraries_have_their_facts file stub library bytes is stubbed =
+    let i = interface_of library in
+    let form = form_of_library library in
+    let stub_is = ok_is _ _ (stub_of i) stubbed (extracted_are_made file library bytes is) in
+    written_has_the_facts i form stub (extracted_have_stubs file library bytes is) (form_is library) stub_is
+    ∙ ap (λ facts. Ok facts) (extracted_keep_facts library)

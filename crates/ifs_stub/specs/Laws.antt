@@ -1,6 +1,6 @@
 -- What holds of each stub file.
-use Rattle.std.specs.Prelude.{◌≡◌, ℕ, ◌+◌, ◌*◌, ◌<◌, ◌^◌, Bool, true, List, length, nat_lt, unwrap_or, Result, Ok}
-use Rattle.std.specs.List.{list_all}
+use Rattle.std.specs.Prelude.{◌≡◌, ℕ, ◌+◌, ◌-◌, ◌*◌, ◌<◌, ◌^◌, Bool, true, List, length, nat_lt, replicate, unwrap_or, Result, Ok}
+use Rattle.std.specs.List.{list_all, slice_range}
 use Rattle.ifs_bytes.specs.Field.{word_size}
 use Rattle.ifs_bytes.specs.Outcome.{◌>>=◌}
 use Rattle.ifs_bytes.specs.declared.form.Width.{Width}
@@ -10,15 +10,36 @@ use Rattle.elf_dyn.specs.Library.{library_of}
 use Rattle.elf_dyn.specs.Rank.{are_bytes}
 use Rattle.ifs_interface.specs.Interface.{InterfaceRecord, IsInterface}
 use Rattle.ifs_interface.specs.Extracted.{interface_of}
-use Rattle.ifs_interface.specs.Facts.{facts_of_library, facts_of_interface}
+use Rattle.ifs_interface.specs.Facts.{Facts, facts_of_library, facts_of_interface}
 use Rattle.ifs_interface.specs.Library.{LibraryRecord}
 use Rattle.ifs_interface.specs.Parts.{parts_of}
 use Rattle.ifs_interface.specs.declared.symbol.Symbol.{Symbol}
 use Rattle.ifs_stub.specs.declared.layout.Form.{Form}
-use Rattle.ifs_stub.specs.StubFile.{file_by, plan_of, stub_file}
+use Rattle.ifs_stub.specs.declared.layout.Plan.{Plan}
+use Rattle.ifs_stub.specs.StubFile.{header_part, symbol_part, string_part, hash_part, dynamic_part, section_names, section_part, file_by, plan_of, stub_file}
 use Rattle.ifs_stub.specs.Stub.{IsWithin, form_of, stub_of}
 use Rattle.ifs_stub.specs.StubLibrary.{stub_library}
 use Rattle.ifs_stub.specs.Forget.{is_known, forget}
+
+-- these bytes stand in the file from a place on
+abbrev pub StandAt : List ℕ → ℕ → List ℕ → Type 0
+StandAt file at bytes = slice_range file at (at + length bytes) ≡ bytes
+
+-- each part stands at its place, and zeros between .dynstr and .hash, .hash and .dynamic, .shstrtab and the section headers
+pub record HasParts (file : List ℕ) (i : InterfaceRecord) (plan : Plan) : Type 0 where
+  pub headers : StandAt file 0 (header_part plan)
+  pub symbols : StandAt file plan.layout.symbols (symbol_part i.symbols plan.form)
+  pub strings : StandAt file plan.layout.strings (string_part i)
+  pub before_hash : StandAt file plan.layout.strings_end (replicate (plan.layout.hash - plan.layout.strings_end) 0)
+  pub hash : StandAt file plan.layout.hash (hash_part plan.sizes.rows plan.form.order)
+  pub before_dynamic : StandAt file plan.layout.hash_end (replicate (plan.layout.dynamic - plan.layout.hash_end) 0)
+  pub dynamic : StandAt file plan.layout.dynamic (dynamic_part i plan)
+  pub names : StandAt file plan.layout.names section_names
+  pub before_sections : StandAt file plan.layout.names_end (replicate (plan.layout.sections - plan.layout.names_end) 0)
+  pub sections : StandAt file plan.layout.sections (section_part plan)
+
+abbrev pub StubsHaveTheirParts : Type 0
+StubsHaveTheirParts = (i : InterfaceRecord) (form : Form) → HasParts (file_by i (plan_of i form)) i (plan_of i form)
 
 -- the file ends behind its six section headers
 abbrev pub StubsEndAtTheirPlace : Type 0
@@ -66,10 +87,19 @@ pub record HasNumbers (i : InterfaceRecord) : Type 0 where
 abbrev pub interface_in : List ℕ → Result InterfaceRecord ElfCause
 interface_in file = library_of file >>= λ library. Ok (interface_of library)
 
+-- the facts of a file, or why it can't be read
+abbrev pub facts_in : List ℕ → Result Facts ElfCause
+facts_in file = library_of file >>= λ library. Ok (facts_of_library library)
+
 -- so the stub of an interface, where there is one, has that interface
 abbrev pub StubsAreReadBack : Type 0
 StubsAreReadBack =
     (i : InterfaceRecord) (stub : List ℕ) → IsInterface i → HasNumbers i → stub_of i ≡ Ok stub → interface_in stub ≡ Ok (forget i)
+
+-- and its facts
+abbrev pub StubsHaveTheFacts : Type 0
+StubsHaveTheFacts =
+    (i : InterfaceRecord) (stub : List ℕ) → IsInterface i → HasNumbers i → stub_of i ≡ Ok stub → facts_in stub ≡ Ok (facts_of_interface i)
 
 -- ---- the stub of a library's interface
 
@@ -103,3 +133,8 @@ ExtractedAreKept =
 -- the interface of a library has the facts of the library
 abbrev pub ExtractedKeepFacts : Type 0
 ExtractedKeepFacts = (library : LibraryRecord) → facts_of_interface (interface_of library) ≡ facts_of_library library
+
+-- so the stub of a library has the facts of the library
+abbrev pub StubsOfLibrariesHaveTheirFacts : Type 0
+StubsOfLibrariesHaveTheirFacts =
+    (file stub : List ℕ) (library : LibraryRecord) → are_bytes file ≡ true → library_of file ≡ Ok library → stub_of (interface_of library) ≡ Ok stub → facts_in stub ≡ Ok (facts_of_library library)

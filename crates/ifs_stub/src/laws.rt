@@ -1,9 +1,11 @@
 //! Laws on stub files.
 
-ghost use Rattle.ifs_stub.specs.Laws.{StubsEndAtTheirPlace, StubsAreSmall, StubsAreRead, StubsKeepInterfaces, StubsKeepFacts, StubsAreReadBack, StubsAreMade, ExtractedHaveStubs, ExtractedAreMade, ExtractedAreKept, ExtractedKeepFacts};
+ghost use Rattle.ifs_stub.specs.Laws.{StubsHaveTheirParts, StubsEndAtTheirPlace, StubsAreSmall, StubsAreRead, StubsKeepInterfaces, StubsKeepFacts, StubsAreReadBack, StubsHaveTheFacts, StubsAreMade, ExtractedHaveStubs, ExtractedAreMade, ExtractedAreKept, ExtractedKeepFacts, StubsOfLibrariesHaveTheirFacts};
 
-/// A stub file is as long as its parts, each at its place, and below 75,497,472 bytes.
+/// Each part of a stub file stands at its place, with zeros between the parts. The file ends behind the last one, and has
+/// less than 75,497,472 bytes.
 pub fn stubs_have_their_size()
+    ensures parts { StubsHaveTheirParts }
     ensures places { StubsEndAtTheirPlace }
     ensures small { StubsAreSmall }
 {}
@@ -17,6 +19,7 @@ pub fn stubs_are_read_back()
     ensures kept { StubsKeepInterfaces }
     ensures facts { StubsKeepFacts }
     ensures read_back { StubsAreReadBack }
+    ensures have_facts { StubsHaveTheFacts }
 {}
 
 /// The interface of a library that was read has a stub of the library's machine, order and width: it is within the
@@ -28,4 +31,5 @@ pub fn extracted_interfaces_have_stubs()
     ensures extracted_made { ExtractedAreMade }
     ensures kept { ExtractedAreKept }
     ensures facts { ExtractedKeepFacts }
+    ensures stubs_have_facts { StubsOfLibrariesHaveTheirFacts }
 {}

@@ -69,7 +69,7 @@ pub struct Layout {
 /// What is known of a stub file before it is written.
 #[derive(Clone, Copy, Debug, PartialEq, Eq)]
 pub struct Plan {
-    /// The machine.
+    /// The machine, byte order and width.
     pub form: Form,
     /// What is counted.
     pub sizes: Sizes,

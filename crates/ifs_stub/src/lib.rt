@@ -10,7 +10,8 @@
 //! back (`stubs_are_read_back`), and that the interface of a library always has a stub
 //! (`extracted_interfaces_have_stubs`).
 //!
-//! A body that always answers that memory ran out meets each of these contracts: that calls succeed is tested.
+//! A body that always answers that memory ran out meets each of these contracts: that calls succeed is tested. The laws
+//! have empty bodies.
 #![tactic(auto)]
 
 mod cause;

@@ -4,12 +4,13 @@ ghost use Rattle.ifs_interface.specs.Interface.{is_proper_name, names_of};
 
 mod samples;
 
-use self::samples::{NARROW, WIDE};
+use self::samples::{EXTRACTED, Extracted, NARROW, Seen, WIDE};
 use super::*;
-use elf_dyn::places_by_name;
+use elf_dyn::{ElfCause, Library, places_by_name};
 use ifs_bytes::{Memory, Order, Text, Width};
 use ifs_interface::{DynRow, Interface, Kind, Symbol, Target};
 use std::alloc::Global;
+use std::process::Abort;
 use std::test::Fail;
 
 const GLOBAL: u8 = 1;
@@ -89,6 +90,71 @@ fn sizes_go_by_kind(rt: HostRuntime) -> Result<(), Fail> {
     assert!(rt; is_sized(&symbols, 1, b"2", Kind::Object, Some(0)));
     assert!(rt; is_sized(&symbols, 2, b"3", Kind::NoType, None));
     assert!(rt; is_sized(&symbols, 3, b"4", Kind::Unknown, Some(5)));
+    Ok(())
+}
+
+// A copy of the stub for x86-64, with these bytes from `at` on.
+fn changed_stub(alloc: Global, at: usize, bytes: &[u8]) -> Result<Vec<u8>, Memory> {
+    let mut file = Vec::from_slice(alloc, &WIDE)?;
+    let mut place = at;
+    for &byte in bytes {
+        if let Some(old) = file.get_mut(place) {
+            *old = byte;
+        }
+        place = place.saturating_add(1);
+    }
+    Ok(file)
+}
+
+// The interface of the library in a file.
+fn interface_in(alloc: Global, file: &[u8]) -> Result<Interface, ElfCause> {
+    Ok(extract(alloc, &Library::parse(alloc, file)?)?)
+}
+
+fn is_seen(symbol: &Symbol, (name, kind, size, weak, undefined): Seen) -> bool {
+    symbol.name.as_bytes() == name
+        && symbol.kind == kind
+        && symbol.size == size
+        && symbol.weak == weak
+        && symbol.undefined == undefined
+}
+
+// The library that this change makes of the stub has these symbols.
+fn has_interface(
+    rt: &(impl Abort + AllocGlobal),
+    (at, bytes, wanted): Extracted,
+) -> Result<(), ElfCause> {
+    let interface = interface_in(rt.alloc(), &changed_stub(rt.alloc(), at, bytes)?)?;
+    let symbols = interface.symbols();
+    assert_eq!(rt; symbols.len(), wanted.len(), "{bytes:?} at {at}");
+    for (symbol, seen) in symbols.iter().zip(wanted) {
+        assert!(rt; is_seen(symbol, *seen), "{bytes:?} at {at}: {symbol:?}");
+    }
+    Ok(())
+}
+
+#[test]
+fn interfaces_of_libraries(rt: HostRuntime) -> Result<(), Fail> {
+    for extracted in EXTRACTED {
+        has_interface(&rt, extracted)?;
+    }
+    Ok(())
+}
+
+// The stub of the library in a file.
+fn stub_of(alloc: Global, file: &[u8]) -> Result<Vec<u8>, ElfCause> {
+    let interface = interface_in(alloc, file)?;
+    Ok(emit(alloc, &interface).unwrap_or(Vec::new(alloc)))
+}
+
+#[test]
+fn stubs_of_stubs(rt: HostRuntime) -> Result<(), Fail> {
+    let alloc = rt.alloc();
+    assert!(rt; stub_of(alloc, &WIDE)?.as_slice() == WIDE.as_slice());
+    assert!(rt; stub_of(alloc, &NARROW)?.as_slice() == NARROW.as_slice());
+    // `foo` of type 10 has no type in the stub.
+    let unknown = stub_of(alloc, &changed_stub(alloc, 228, &[0x1a])?)?;
+    assert!(rt; unknown == changed_stub(alloc, 228, &[0x10])?);
     Ok(())
 }
 

@@ -31,30 +31,143 @@ pub type Damage = (usize, &'static [u8], ElfCause);
 /// wants it.
 pub type Facts = (usize, &'static [u8], Option<Fact>, [Option<bool>; 2]);
 
-/// From how many bytes on and below how many the first bytes of a file are refused, and why; None where they
-/// are read.
-pub type Cut = (usize, usize, Option<ElfCause>);
+/// The files that are damaged.
+#[derive(Clone, Copy)]
+pub enum File {
+    /// The stub.
+    Stub,
+    /// The stub without section headers.
+    BareStub,
+    /// The library without section headers and with a GNU hash table.
+    Gnu,
+}
 
-/// The stub, cut.
-pub static CUT: [Cut; 5] = [
-    (0, 4, Some(ElfCause::NotElf)),
-    (4, 64, Some(ElfCause::Truncated(0))),
-    (64, 176, Some(ElfCause::Truncated(64))),
-    (176, 840, Some(ElfCause::Truncated(456))),
-    (840, 841, None),
-];
+/// What is answered of a damaged file.
+#[derive(Clone, Copy)]
+pub enum Answer {
+    /// This cause.
+    Refused(ElfCause),
+    /// A library with the facts of the stub.
+    StubFacts,
+    /// A library without a soname and without rows.
+    NoNames,
+}
 
-/// The stub without section headers, cut.
-pub static CUT_BARE: [Cut; 5] = [
-    (0, 4, Some(ElfCause::NotElf)),
-    (4, 64, Some(ElfCause::Truncated(0))),
-    (64, 176, Some(ElfCause::Truncated(64))),
-    (176, 408, Some(ElfCause::Truncated(296))),
-    (408, 841, None),
+/// A file, an offset and the bytes put from there on, from how many bytes on and below how many its first bytes are
+/// read, and what is answered then.
+pub type Damaged = (File, usize, &'static [u8], usize, usize, Answer);
+
+/// The parts of the stub stand so: program headers at 64, .dynsym at 176, .dynstr at 248, .hash at 272, .dynamic at
+/// 296, .shstrtab at 408, section headers at 456.
+pub static DAMAGED: [Damaged; 15] = [
+    // Cut: within the magic number, the file header, the program headers; before the end of the section headers.
+    (File::Stub, 0, &[], 0, 4, Answer::Refused(ElfCause::NotElf)),
+    (
+        File::Stub,
+        0,
+        &[],
+        4,
+        64,
+        Answer::Refused(ElfCause::Truncated(0)),
+    ),
+    (
+        File::Stub,
+        0,
+        &[],
+        64,
+        176,
+        Answer::Refused(ElfCause::Truncated(64)),
+    ),
+    (
+        File::Stub,
+        0,
+        &[],
+        176,
+        840,
+        Answer::Refused(ElfCause::Truncated(456)),
+    ),
+    // Without section headers: before the end of .dynamic, and behind it.
+    (
+        File::BareStub,
+        0,
+        &[],
+        0,
+        4,
+        Answer::Refused(ElfCause::NotElf),
+    ),
+    (
+        File::BareStub,
+        0,
+        &[],
+        4,
+        64,
+        Answer::Refused(ElfCause::Truncated(0)),
+    ),
+    (
+        File::BareStub,
+        0,
+        &[],
+        64,
+        176,
+        Answer::Refused(ElfCause::Truncated(64)),
+    ),
+    (
+        File::BareStub,
+        0,
+        &[],
+        176,
+        408,
+        Answer::Refused(ElfCause::Truncated(296)),
+    ),
+    (File::BareStub, 0, &[], 408, 841, Answer::StubFacts),
+    // DT_STRTAB is 408, DT_STRSZ 2^64 - 1, nchain 0xffffffff.
+    (
+        File::BareStub,
+        336,
+        &[0x98, 0x01],
+        840,
+        841,
+        Answer::Refused(ElfCause::Truncated(408)),
+    ),
+    (
+        File::BareStub,
+        368,
+        &[0xff; 8],
+        840,
+        841,
+        Answer::Refused(ElfCause::Truncated(248)),
+    ),
+    (
+        File::BareStub,
+        276,
+        &[0xff; 4],
+        840,
+        841,
+        Answer::Refused(ElfCause::Truncated(176)),
+    ),
+    // sh_offset of .dynsym is 2^64 - 1; .dynstr stands over .dynsym, whose first 19 bytes are 0.
+    (
+        File::Stub,
+        544,
+        &[0xff; 8],
+        840,
+        841,
+        Answer::Refused(ElfCause::Truncated(u64::MAX)),
+    ),
+    (File::Stub, 608, &[176], 840, 841, Answer::NoNames),
+    // The bucket is 28: its chain has even words up to the end of the file.
+    (
+        File::Gnu,
+        312,
+        &[28],
+        440,
+        441,
+        Answer::Refused(ElfCause::Truncated(440)),
+    ),
 ];
 
 /// The stub, changed and read. Row 1, `bar`, is at 200, the last dynamic entry before DT_NULL at 376.
-pub static NAMES: [Names; 22] = [
+pub static NAMES: [Names; 21] = [
     (0, &[], b"libfoo.so: bar foo"),
     // Internal, hidden, protected; the upper bits of st_other don't count.
     (205, &[1], b"libfoo.so: foo"),
@@ -89,8 +202,7 @@ pub static NAMES: [Names; 22] = [
         ],
         b"libfoo.so: bar foo",
     ),
-    // .dynstr over .dynsym; no dynamic section, no section of dynamic symbols.
-    (608, &[176], b":"),
+    // No dynamic section, no section of dynamic symbols.
     (716, &[0], b"libfoo.so: bar foo"),
     (524, &[0], b"libfoo.so: bar foo"),
 ];
@@ -160,7 +272,7 @@ pub static GNU_NAMES: [Names; 6] = [
 pub static GNU_32_NAMES: [Names; 1] = [(216, &[0x6f, 0xff, 0xfe, 0xf5], b"libfoo.so: bar foo")];
 
 /// The stub, refused.
-pub static SECTION_DAMAGE: [Damage; 14] = [
+pub static SECTION_DAMAGE: [Damage; 13] = [
     (0, b"!<arch>\n", ElfCause::Archive),
     (16, &[2], ElfCause::WrongKind),
     // The last byte of .dynstr, which ends the soname; places at the end of .dynstr.
@@ -171,8 +283,7 @@ pub static SECTION_DAMAGE: [Damage; 14] = [
     (224, &[19], ElfCause::BadName(NamePlace::Symbol(2))),
     // Both a bad soname and a bad row.
     (616, &[4], ElfCause::BadName(NamePlace::Dynamic(0))),
-    // sh_offset of .dynsym, of .dynamic and of .dynstr, and its sh_size.
-    (544, &[0xff; 8], ElfCause::Truncated(u64::MAX)),
+    // sh_offset of .dynamic and of .dynstr, and its sh_size.
     (736, &[0xff; 8], ElfCause::Truncated(u64::MAX)),
     (608, &[0xff; 8], ElfCause::Truncated(u64::MAX)),
     (616, &[0xff; 8], ElfCause::Truncated(248)),
@@ -182,7 +293,7 @@ pub static SECTION_DAMAGE: [Damage; 14] = [
 ];
 
 /// The stub without section headers, refused.
-pub static SEGMENT_DAMAGE: [Damage; 14] = [
+pub static SEGMENT_DAMAGE: [Damage; 11] = [
     // No PT_DYNAMIC, and one outside the file.
     (120, &[0], ElfCause::NoDynamic),
     (128, &[0xff; 8], ElfCause::Truncated(u64::MAX)),
@@ -192,8 +303,7 @@ pub static SEGMENT_DAMAGE: [Damage; 14] = [
     (344, &[11], ElfCause::NoDynamic),
     (360, &[11], ElfCause::NoDynamic),
     (296, &[0], ElfCause::NoDynamic),
-    // Addresses that no segment holds: of the strings, of the hash table, of the rows.
-    (336, &[0x98, 0x01], ElfCause::Truncated(408)),
+    // Addresses that no segment holds: of the hash table, of the rows.
     (320, &[0x98, 0x01], ElfCause::Truncated(408)),
     (352, &[0x98, 0x01], ElfCause::Truncated(408)),
     // No segment at all: the strings are looked at first. One for the strings alone: the hash table comes next.
@@ -203,15 +313,11 @@ pub static SEGMENT_DAMAGE: [Damage; 14] = [
         &[240, 0, 0, 0, 0, 0, 0, 0, 0, 0, 0, 0, 0, 0, 0, 0, 24, 0],
         ElfCause::Truncated(272),
     ),
-    // The size of the strings; the number of chain words.
-    (368, &[0xff; 8], ElfCause::Truncated(248)),
-    (276, &[0xff; 4], ElfCause::Truncated(176)),
 ];
 
 /// The library with a GNU hash table, refused.
-pub static GNU_DAMAGE: [Damage; 4] = [
-    // A chain that is even up to the end of the file, and one that begins outside.
-    (312, &[28], ElfCause::Truncated(440)),
+pub static GNU_DAMAGE: [Damage; 3] = [
+    // A chain that begins outside the file.
     (312, &[0xff; 4], ElfCause::Truncated(17_179_869_492)),
     // As many buckets and Bloom words as there may be.
     (288, &[0xff; 4], ElfCause::Truncated(440)),

@@ -1,21 +1,28 @@
 -- The parts of a stub file stand at the places of its plan, and these are small numbers.
-use Rattle.std.proofs.Common.{◌≡◌, ℕ, ◌+◌, ◌*◌, ◌<◌, ◌^◌, List, [], ◌++◌, length, refl, arith}
+use Rattle.std.proofs.Common.{◌≡◌, ℕ, ◌+◌, ◌-◌, ◌*◌, ◌<◌, ◌^◌, List, [], ◌++◌, length, refl, subst, arith}
+use Rattle.std.specs.Prelude.{replicate}
 use Rattle.ifs_bytes.specs.declared.form.Width.{Width}
 use Rattle.ifs_bytes.specs.declared.form.Width.TheVariants.{W32, W64}
 use Rattle.elf_file.specs.Tables.{header_size, segment_size}
 use Rattle.ifs_interface.specs.Interface.{InterfaceRecord}
 use Rattle.ifs_stub.specs.declared.layout.Form.{Form}
 use Rattle.ifs_stub.specs.declared.layout.Plan.{Plan}
+use Rattle.ifs_stub.specs.Laws.{StandAt, HasParts}
 use Rattle.ifs_stub.specs.Stub.{IsWithin}
 use Rattle.ifs_stub.specs.StubFile.{sizes_of, layout_of, plan_of, gap, section_names, header_part, symbol_part, string_part, hash_part, dynamic_part, section_part, gap_part, file_by}
 use Rattle.ifs_stub.proofs.FileSize.{next, length-header_part, length-symbol_part, length-string_part, length-gap_part, length-hash_part, length-dynamic_part, length-file_by, file_is_small}
-use Rattle.ifs_stub.proofs.ReadBack.Stands.{Stands, stands_last, stands_more}
+use Rattle.ifs_stub.proofs.ReadBack.Stands.{Stands, stands_last, stands_more, stands_at}
 
 pub record PartsStand (file : List ℕ) (i : InterfaceRecord) (plan : Plan) : Type 0 where
   pub header : Stands file 0 (header_part plan)
   pub symbols : Stands file plan.layout.symbols (symbol_part i.symbols plan.form)
   pub strings : Stands file plan.layout.strings (string_part i)
+  pub before_hash : Stands file plan.layout.strings_end (gap_part plan.form.width plan.layout.strings_end)
+  pub hash : Stands file plan.layout.hash (hash_part plan.sizes.rows plan.form.order)
+  pub before_dynamic : Stands file plan.layout.hash_end (gap_part plan.form.width plan.layout.hash_end)
   pub dynamic : Stands file plan.layout.dynamic (dynamic_part i plan)
+  pub names : Stands file plan.layout.names section_names
+  pub before_sections : Stands file plan.layout.names_end (gap_part plan.form.width plan.layout.names_end)
   pub sections : Stands file plan.layout.sections (section_part plan)
 
 pub parts_stand : (i : InterfaceRecord) (form : Form) → PartsStand (file_by i (plan_of i form)) i (plan_of i form)
@@ -41,14 +48,48 @@ parts_stand i form =
     let to_names = next _ _ _ _ to_dynamic (length-dynamic_part i plan) in
     let to_gap_three = next _ section_names _ 42 to_names refl in
     let to_sections = next _ _ _ _ to_gap_three (length-gap_part width plan.layout.names_end) in
-    let behind_dynamic = λ (at : ℕ) (part : List ℕ) (s : Stands (header ++ symbols ++ strings ++ gap_one ++ hash ++ gap_two ++ dynamic) at part). stands_more _ _ sections _ (stands_more _ _ gap_three _ (stands_more _ _ section_names _ s)) in
-    let behind_strings = λ (at : ℕ) (part : List ℕ) (s : Stands (header ++ symbols ++ strings) at part). behind_dynamic at part (stands_more _ _ dynamic _ (stands_more _ _ gap_two _ (stands_more _ _ hash _ (stands_more _ _ gap_one _ s)))) in
+    let behind_names = λ (at : ℕ) (part : List ℕ) (s : Stands (header ++ symbols ++ strings ++ gap_one ++ hash ++ gap_two ++ dynamic ++ section_names) at part). stands_more _ _ sections _ (stands_more _ _ gap_three _ s) in
+    let behind_dynamic = λ (at : ℕ) (part : List ℕ) (s : Stands (header ++ symbols ++ strings ++ gap_one ++ hash ++ gap_two ++ dynamic) at part). behind_names at part (stands_more _ _ section_names _ s) in
+    let behind_hash = λ (at : ℕ) (part : List ℕ) (s : Stands (header ++ symbols ++ strings ++ gap_one ++ hash) at part). behind_dynamic at part (stands_more _ _ dynamic _ (stands_more _ _ gap_two _ s)) in
+    let behind_gap_one = λ (at : ℕ) (part : List ℕ) (s : Stands (header ++ symbols ++ strings ++ gap_one) at part). behind_hash at part (stands_more _ _ hash _ s) in
+    let behind_strings = λ (at : ℕ) (part : List ℕ) (s : Stands (header ++ symbols ++ strings) at part). behind_gap_one at part (stands_more _ _ gap_one _ s) in
     record {
       header = behind_strings _ _ (stands_more _ _ strings _ (stands_more _ _ symbols _ (stands_last [] header 0 refl)));
       symbols = behind_strings _ _ (stands_more _ _ strings _ (stands_last header symbols _ to_symbols));
       strings = behind_strings _ _ (stands_last (header ++ symbols) strings _ to_strings);
+      before_hash = behind_gap_one _ _ (stands_last (header ++ symbols ++ strings) gap_one _ to_gap_one);
+      hash = behind_hash _ _ (stands_last (header ++ symbols ++ strings ++ gap_one) hash _ to_hash);
+      before_dynamic = behind_dynamic _ _ (stands_more _ _ dynamic _ (stands_last (header ++ symbols ++ strings ++ gap_one ++ hash) gap_two _ to_gap_two));
       dynamic = behind_dynamic _ _ (stands_last (header ++ symbols ++ strings ++ gap_one ++ hash ++ gap_two) dynamic _ to_dynamic);
+      names = behind_names _ _ (stands_last (header ++ symbols ++ strings ++ gap_one ++ hash ++ gap_two ++ dynamic) section_names _ to_names);
+      before_sections = stands_more _ _ sections _ (stands_last (header ++ symbols ++ strings ++ gap_one ++ hash ++ gap_two ++ dynamic ++ section_names) gap_three _ to_gap_three);
       sections = stands_last _ sections _ to_sections;
+    }
+
+-- ---- as it is said of stubs
+
+zeros_between : (file : List ℕ) (width : Width) (at next : ℕ) → next ≡ at + gap width at → Stands file at (gap_part width at) → StandAt file at (replicate (next - at) 0)
+unfolding gap_part
+zeros_between file width at next is s =
+    let size_is : gap width at ≡ next - at = omega (arith, is) in
+    subst (λ n. StandAt file at (replicate n 0)) size_is (stands_at file _ at s)
+
+pub stubs_have_their_parts : (i : InterfaceRecord) (form : Form) → HasParts (file_by i (plan_of i form)) i (plan_of i form)
+unfolding layout_of
+stubs_have_their_parts i form =
+    let s = parts_stand i form in
+    let layout = (plan_of i form).layout in
+    record {
+      headers = stands_at _ _ _ s.header;
+      symbols = stands_at _ _ _ s.symbols;
+      strings = stands_at _ _ _ s.strings;
+      before_hash = zeros_between _ form.width layout.strings_end layout.hash refl s.before_hash;
+      hash = stands_at _ _ _ s.hash;
+      before_dynamic = zeros_between _ form.width layout.hash_end layout.dynamic refl s.before_dynamic;
+      dynamic = stands_at _ _ _ s.dynamic;
+      names = stands_at _ _ _ s.names;
+      before_sections = zeros_between _ form.width layout.names_end layout.sections refl s.before_sections;
+      sections = stands_at _ _ _ s.sections;
     }
 
 -- all numbers of a plan have a place in four bytes

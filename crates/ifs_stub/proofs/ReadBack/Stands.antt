@@ -2,6 +2,7 @@
 use Rattle.std.proofs.Common.{◌≡◌, ℕ, ◌+◌, ◌-◌, ◌*◌, ◌≤◌, List, [], ◌∷◌, ◌++◌, length, take, drop, map, refl, sym, ap, ◌∙◌, arith, append_assoc, length-append}
 use Rattle.std.specs.List.{flat_map, range_with_len, slice_range}
 use Rattle.std.proofs.lemmas.List.{append-nil}
+use Rattle.ifs_stub.specs.Laws.{StandAt}
 use Rattle.std.proofs.Math.Seq.{drop-append_seam, take-append_seam}
 
 pub record Stands (file : List ℕ) (at : ℕ) (part : List ℕ) : Type 0 where
@@ -61,6 +62,9 @@ pub stands_slice : (file part : List ℕ) (at size : ℕ) → length part ≡ si
 stands_slice file part at size e s =
     let size_is : at + size - at ≡ length part = omega (arith, e) in
     ap (λ n. take n (drop at file)) size_is ∙ ap (take (length part)) (stands_drop file part at s) ∙ take-append_seam part s.after
+
+pub stands_at : (file part : List ℕ) (at : ℕ) → Stands file at part → StandAt file at part
+stands_at file part at s = stands_slice file part at (length part) refl s
 
 -- each value has a place
 abbrev pub EachFits : {X : Type 0} → (X → Type 0) → List X → Type 0

@@ -10,11 +10,12 @@ use Rattle.ifs_bytes.specs.declared.form.Width.{Width}
 use Rattle.ifs_bytes.specs.declared.form.Width.TheVariants.{W32, W64}
 use Rattle.ifs_interface.specs.Interface.{InterfaceRecord, IsInterface}
 use Rattle.ifs_interface.specs.Extracted.{interface_of}
+use Rattle.ifs_interface.specs.Facts.{facts_of_library, facts_of_interface}
 use Rattle.ifs_interface.specs.Parts.{parts_of}
 use Rattle.ifs_interface.specs.declared.symbol.Symbol.{Symbol}
 use Rattle.ifs_interface.specs.declared.target.Target.{Target}
 use Rattle.ifs_stub.specs.Forget.{forget}
-use Rattle.ifs_stub.specs.Laws.{HasNumbers, HasStub, size_fits, interface_in}
+use Rattle.ifs_stub.specs.Laws.{HasNumbers, HasStub, size_fits, interface_in, facts_in}
 use Rattle.ifs_stub.specs.Stub.{IsWithin, form_of, is_too_wide, unless_too_wide, sizes_checked, limits_checked, name_count, name_bytes, stub_of}
 use Rattle.ifs_stub.specs.StubFile.{stub_file}
 use Rattle.ifs_stub.specs.declared.cause.StubCause.TheVariants.{TooManySymbols, NamesTooLarge}
@@ -23,6 +24,7 @@ use Rattle.ifs_stub.specs.declared.layout.Form.{Form}
 use Rattle.ifs_stub.proofs.Steps.{steps, check_holds, at_most, ok_is}
 use Rattle.ifs_stub.proofs.SymbolRows.{none_found}
 use Rattle.ifs_stub.proofs.ReadBack.Each.{or_parts}
+use Rattle.ifs_stub.proofs.ReadBack.Facts.{stubs_keep_facts}
 use Rattle.ifs_stub.proofs.ReadBack.Interfaces.{target_by, stubs_keep_interfaces}
 use Rattle.ifs_stub.proofs.ReadBack.Libraries.{stubs_are_read}
 
@@ -91,18 +93,32 @@ written_is_read_back i form bytes has formed is =
     ap interface_in is ∙ ap (λ r. r >>= λ library. Ok (interface_of library)) (stubs_are_read i form has)
     ∙ ap (λ j. Ok j) (stubs_keep_interfaces i form has.interface formed)
 
+pub written_has_the_facts : (i : InterfaceRecord) (form : Form) (bytes : List ℕ) → HasStub i form → form_of (parts_of i.target) ≡ Ok form → bytes ≡ stub_file form.order form.width form.machine i → facts_in bytes ≡ Ok (facts_of_interface i)
+written_has_the_facts i form bytes has formed is =
+    ap facts_in is ∙ ap (λ r. r >>= λ library. Ok (facts_of_library library)) (stubs_are_read i form has)
+    ∙ ap (λ facts. Ok facts) (stubs_keep_facts i form has.interface formed)
+
+made_has_stub : (i : InterfaceRecord) (stub : List ℕ) (form : Form) → IsInterface i → HasNumbers i → IsMade i stub form → HasStub i form
+made_has_stub i stub form is numbers made = record {
+  interface = is;
+  machine_fits = machine_is_small i form numbers made.formed;
+  sizes_fit = sizes_have_places form.width i.symbols numbers.sizes made.none_wide;
+  within = made.within;
+}
+
 pub stubs_are_read_back : (i : InterfaceRecord) (stub : List ℕ) → IsInterface i → HasNumbers i → stub_of i ≡ Ok stub → interface_in stub ≡ Ok (forget i)
 stubs_are_read_back i stub is numbers stubbed =
     let result = is_made i stub stubbed in
     let form = result.0 in
     let made = result.1 in
-    let has : HasStub i form = record {
-      interface = is;
-      machine_fits = machine_is_small i form numbers made.formed;
-      sizes_fit = sizes_have_places form.width i.symbols numbers.sizes made.none_wide;
-      within = made.within;
-    } in
-    written_is_read_back i form stub has made.formed (sym made.stub_is)
+    written_is_read_back i form stub (made_has_stub i stub form is numbers made) made.formed (sym made.stub_is)
+
+pub stubs_have_the_facts : (i : InterfaceRecord) (stub : List ℕ) → IsInterface i → HasNumbers i → stub_of i ≡ Ok stub → facts_in stub ≡ Ok (facts_of_interface i)
+stubs_have_the_facts i stub is numbers stubbed =
+    let result = is_made i stub stubbed in
+    let form = result.0 in
+    let made = result.1 in
+    written_has_the_facts i form stub (made_has_stub i stub form is numbers made) made.formed (sym made.stub_is)
 
 -- ---- an interface that has a stub
 

@@ -1,4 +1,47 @@
-//! Stub files, byte by byte.
+//! Stub files, byte by byte, and what interfaces the libraries have that changes of them make.
+
+use ifs_interface::Kind;
+
+/// A symbol's name, kind and size, and whether it is weak and whether it is undefined.
+pub type Seen = (&'static [u8], Kind, Option<u64>, bool, bool);
+
+/// An offset of the stub, the bytes put from there on, and the symbols of the interface that this leaves.
+pub type Extracted = (usize, &'static [u8], &'static [Seen]);
+
+const BAR: Seen = (b"bar", Kind::Object, Some(42), false, false);
+
+const FOO: Seen = (b"foo", Kind::Func, None, false, false);
+
+/// The stub for x86-64, changed: sh_size of .dynsym is at 552, row 1, `bar`, at 200, and row 2, `foo`, at 224. A row has
+/// st_name, st_info, st_other, st_shndx, st_value and st_size.
+pub static EXTRACTED: [Extracted; 6] = [
+    (0, &[], &[BAR, FOO]),
+    // Row 0 alone.
+    (552, &[24], &[]),
+    // `foo` has the type 10.
+    (
+        228,
+        &[0x1a],
+        &[BAR, (b"foo", Kind::Unknown, None, false, false)],
+    ),
+    // `foo` is code with a size.
+    (240, &[16], &[BAR, FOO]),
+    // `foo` undefined and WEAK, then code that is defined.
+    (
+        200,
+        &[5, 0, 0, 0, 0x20, 0, 0, 0, 0, 0, 0, 0, 0, 0, 0, 0, 0],
+        &[FOO],
+    ),
+    // `bar` undefined and WEAK, then undefined and GLOBAL.
+    (
+        204,
+        &[
+            0x20, 0, 0, 0, 0, 0, 0, 0, 0, 0, 0, 0, 0, 0, 0, 0, 0, 0, 0, 0, 1, 0, 0, 0, 0x10, 0, 0,
+            0,
+        ],
+        &[(b"bar", Kind::NoType, None, false, true)],
+    ),
+];
 
 /// The stub of `libfoo.so` for x86-64: `bar`, data of 42 bytes, and `foo`, code.
 pub const WIDE: [u8; 840] = [
