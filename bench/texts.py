@@ -5,15 +5,16 @@
 
 The texts are made here, in a temporary folder, and in another process, so that this one stays small: the memory of a
 child that is told is at least that of its parent. Each program runs several times, in turns, and the best processor
-time counts. The refused texts are of 10 and 100 MB: brackets in one another, a flat list, lines in one another, and
-a quote without its end. The status is 1 where a program fails, where an answer isn't the expected one, or where a
-bound below is passed.
+time counts. The refused texts are of 10 and 100 MB, nested (brackets, maps and lines in one another, brackets that stay
+open) and flat (lists, a key over and over, a quote without its end). The status is 1 where a program fails, where an
+answer isn't the expected one, or where a bound below is passed.
 """
 import argparse
 import random
 import subprocess
 import sys
 import tempfile
+from math import isqrt
 from pathlib import Path
 
 from limits import refusal
@@ -28,11 +29,22 @@ RATIO, MEMORY_RATIO, TENFOLD = 0.5, 0.25, 15.0
 
 START = (b"--- !ifs-v1\nIfsVersion:      3.0\nSoName:          libbench.so.1\n"
          b"Target:          { ObjectFormat: ELF, Arch: x86_64, Endianness: little, BitWidth: 64 }\nSymbols:\n")
+
+
+def further_right(size):
+    """Keys on lines, each further right than the one before, of so many bytes together."""
+    return b"--- !ifs-v1\n" + b"".join(b" " * column + b"a:\n" for column in range(isqrt(2 * size)))
+
+
+# a text by a count, how many bytes each has, and the answer
 JUNK = {
     "brackets in one another": (lambda size: b"--- !ifs-v1\n" + b"[" * size + b"]" * size, 2, "Yaml(At(0, Shape))"),
+    "maps in one another": (lambda size: b"--- !ifs-v1\n" + b"{a: " * size + b"}" * size, 5, "Yaml(At(0, Shape))"),
+    "lines in one another": (further_right, 1, "Yaml(At(0, Shape))"),
+    "brackets that stay open": (lambda size: b"--- !ifs-v1\n" + b"[" * size, 1, "Yaml(At(12, Unclosed))"),
     "a flat list": (lambda size: b"--- !ifs-v1\n[ " + b"a, " * size + b"a ]\n", 3, "NotIfs"),
     "a key over and over": (lambda size: b"--- !ifs-v1\n" + b"SoName: a\n" * size, 10, "RepeatedKey(SoName)"),
-    "lines in one another": (lambda size: b"--- !ifs-v1\n" + b"- a:\n" * size, 5, "NotIfs"),
+    "a list of maps": (lambda size: b"--- !ifs-v1\n" + b"- a:\n" * size, 5, "NotIfs"),
     "a quote without its end": (lambda size: b"--- !ifs-v1\n- '" + b"''" * size + b"\n", 2, "Yaml(At(14, Unclosed))"),
 }
 

@@ -1,4 +1,7 @@
 //! Edits of interfaces: patterns of names, what is kept of symbols and targets, and one interface of several.
+//!
+//! No clause says when memory runs out, so a body that answers `Memory` alone meets them, as one of `strip_target` or
+//! `printed`; the tests have calls of each that succeed.
 #![tactic(auto)]
 
 mod adjusted;

@@ -1,10 +1,10 @@
-ghost use Rattle.std.specs.Prelude.{◌≡◌, codes, true, IfOk};
+ghost use Rattle.std.specs.Prelude.{◌≡◌, ◌<◌, codes, length, true, IfOk};
 ghost use Rattle.std.specs.List.{list_all};
 ghost use Rattle.ifs_interface.specs.Interface.{is_proper_name, is_proper_target, names_of};
 
 use super::*;
 use ifs_bytes::{List, Memory, Order, Text, Width};
-use ifs_interface::{Interface, Kind, Symbol, Target};
+use ifs_interface::{Interface, Kind, Symbol, Target, triple_parts};
 use std::alloc::Global;
 use std::test::Fail;
 
@@ -18,7 +18,7 @@ fn told(alloc: Global, pattern: &[u8], name: &[u8]) -> Result<Text, Memory> {
 }
 
 // Patterns, names, and what the pattern says of the name.
-const ROWS: [(&[u8], &[u8], &[u8]); 50] = [
+const ROWS: [(&[u8], &[u8], &[u8]); 56] = [
     (b"", b"", b"yes"),
     (b"", b"a", b"no"),
     (b"*", b"", b"yes"),
@@ -60,12 +60,18 @@ const ROWS: [(&[u8], &[u8], &[u8]); 50] = [
     (b"]", b"]", b"yes"),
     (b"a-b", b"a-b", b"yes"),
     (b"[\xff]", b"\xff", b"yes"),
+    (b"[[]", b"[", b"yes"),
+    (b"[!-a]", b"-", b"no"),
+    (b"[a^-z]", b"p", b"yes"),
     (b"[", b"", b"BadGlob(0)"),
     (b"a[]", b"", b"BadGlob(1)"),
     (b"[]a]", b"", b"BadGlob(0)"),
     (b"[!]", b"", b"BadGlob(0)"),
     (b"[^]a]", b"", b"BadGlob(0)"),
     (b"ab[cd", b"", b"BadGlob(2)"),
+    (b"?[!", b"", b"BadGlob(1)"),
+    (b"*[a-", b"", b"BadGlob(1)"),
+    (b"[a--]", b"", b"BadGlob(0)"),
     (b"[b-a]", b"", b"BadGlob(0)"),
     (b"[a][c-b][", b"", b"BadGlob(3)"),
     (b"\\a*\\", b"", b"BadGlob(3)"),
@@ -203,10 +209,11 @@ fn only_baz(alloc: Global) -> Result<Interface, Fail> {
     library(alloc, target(62), vec![in alloc; baz]?)
 }
 
-// What merging two interfaces says: the names of its symbols, or the cause.
-fn merging(alloc: Global, one: Interface, other: Interface) -> Result<Text, Fail> {
-    let list = vec![in alloc; one, other]?;
-    match merge(alloc, &list) {
+// What merging interfaces says: the names of the symbols, or the cause.
+fn merging(alloc: Global, list: &[Interface]) -> Result<Text, Fail>
+    requires { 0 < length list.now }
+{
+    match merge(alloc, list) {
         Ok(whole) => names(alloc, &whole),
         Err(cause) => Ok(cause.printed(alloc)?),
     }
@@ -225,10 +232,13 @@ fn names(alloc: Global, interface: &Interface) -> Result<Text, Fail> {
 #[test]
 fn interfaces_together(rt: HostRuntime) -> Result<(), Fail> {
     let alloc = rt.alloc();
-    let same = merging(alloc, foo_and_bar(alloc)?, foo_and_bar(alloc)?)?;
-    assert_eq!(rt; same.as_bytes(), b"bar foo ".as_slice());
-    let more = merging(alloc, foo_and_bar(alloc)?, only_baz(alloc)?)?;
-    assert_eq!(rt; more.as_bytes(), b"bar baz foo ".as_slice());
+    let same = vec![in alloc; foo_and_bar(alloc)?, foo_and_bar(alloc)?]?;
+    assert!(rt; merge(alloc, &same)? == foo_and_bar(alloc)?);
+    let more = vec![in alloc; foo_and_bar(alloc)?, only_baz(alloc)?]?;
+    assert_eq!(rt;
+        merging(alloc, &more)?.as_bytes(),
+        b"bar baz foo ".as_slice()
+    );
     Ok(())
 }
 
@@ -243,7 +253,7 @@ enum Change {
     Warning,
 }
 
-// What merging `bar` and a changed one says.
+// What merging `baz`, `bar` and a changed `bar` says.
 const CHANGES: [(Change, &[u8]); 6] = [
     (Change::Kind, b"TypeMismatch(bar, Object, Tls)"),
     (Change::Size, b"SizeMismatch(bar, 4, 8)"),
@@ -273,8 +283,12 @@ fn changed(alloc: Global, change: Change) -> Result<Symbol, Memory>
 fn symbols_that_differ(rt: HostRuntime) -> Result<(), Fail> {
     let alloc = rt.alloc();
     for (change, answer) in CHANGES {
-        let one = only(alloc, bar(alloc, Some(4))?)?;
-        let got = merging(alloc, one, only(alloc, changed(alloc, change)?)?)?;
+        let list = vec![in alloc;
+            only_baz(alloc)?,
+            only(alloc, bar(alloc, Some(4))?)?,
+            only(alloc, changed(alloc, change)?)?,
+        ]?;
+        let got = merging(alloc, &list)?;
         assert_eq!(rt; got.as_bytes(), answer);
     }
     Ok(())
@@ -288,11 +302,11 @@ enum Part {
     Needed,
 }
 
-// What merging `libfoo.so` with such an interface says.
+// What merging two of `libfoo.so` with such an interface says.
 const PARTS: [(Part, &[u8]); 3] = [
-    (Part::Target, b"TargetMismatch(1)"),
-    (Part::Soname, b"SonameMismatch(1)"),
-    (Part::Needed, b"NeededMismatch(1)"),
+    (Part::Target, b"TargetMismatch(2)"),
+    (Part::Soname, b"SonameMismatch(2)"),
+    (Part::Needed, b"NeededMismatch(2)"),
 ];
 
 // An interface without symbols that isn't like `libfoo.so` in a part, and in those that are looked at later.
@@ -310,7 +324,8 @@ fn unlike(alloc: Global, part: Part) -> Result<Interface, Fail> {
 fn parts_that_differ(rt: HostRuntime) -> Result<(), Fail> {
     let alloc = rt.alloc();
     for (part, answer) in PARTS {
-        let got = merging(alloc, foo_and_bar(alloc)?, unlike(alloc, part)?)?;
+        let list = vec![in alloc; foo_and_bar(alloc)?, only_baz(alloc)?, unlike(alloc, part)?]?;
+        let got = merging(alloc, &list)?;
         assert_eq!(rt; got.as_bytes(), answer);
     }
     Ok(())
@@ -391,6 +406,61 @@ fn targets_that_are_given(rt: HostRuntime) -> Result<(), Fail> {
     Ok(())
 }
 
+// The target of a triple; one that nothing is known of where that isn't known.
+fn target_of_triple(alloc: Global, triple: &[u8]) -> Result<Target, Memory>
+    ensures { IfOk result (λ target. is_proper_target target.triple target ≡ true) }
+{
+    let mut target = no_target();
+    if triple_parts(triple).is_some() {
+        target.triple = Some(Text::from_slice(alloc, triple)?);
+    }
+    Ok(target)
+}
+
+// A triple that is there, one that is given, and what adjusting the one to the other says.
+const TRIPLES: [(&[u8], &[u8], &[u8]); 4] = [
+    (b"arm-linux", b"arm-linux", b"arm-linux"),
+    (b"arm-linux", b"?", b"arm-linux"),
+    (b"?", b"arm-linux", b"arm-linux"),
+    (
+        b"arm-linux",
+        b"arm-linux-gnu",
+        b"TargetConflict(Triple, arm-linux, arm-linux-gnu)",
+    ),
+];
+
+// What adjusting an interface of a target says: its triple, or the cause.
+fn adjusting_target(alloc: Global, there: Target, given: Target) -> Result<Text, Fail>
+    requires there { is_proper_target there.triple there ≡ true }
+    requires given { is_proper_target given.triple given ≡ true }
+{
+    let interface = library(alloc, there, Vec::new(alloc))?;
+    match adjust(alloc, &interface, &options(alloc, given)) {
+        Ok(adjusted) => {
+            let triple = adjusted.target().triple.as_ref().ok_or("no triple")?;
+            Ok(triple.copy(alloc)?)
+        }
+        Err(cause) => Ok(cause.printed(alloc)?),
+    }
+}
+
+#[test]
+fn triples_that_are_given(rt: HostRuntime) -> Result<(), Fail> {
+    let alloc = rt.alloc();
+    for (there, given, answer) in TRIPLES {
+        let there = target_of_triple(alloc, there)?;
+        let got = adjusting_target(alloc, there, target_of_triple(alloc, given)?)?;
+        assert_eq!(rt; got.as_bytes(), answer);
+    }
+    let own = target_of_triple(alloc, b"arm-linux")?;
+    let got = adjusting_target(alloc, own, target(62))?;
+    assert_eq!(rt;
+        got.as_bytes(),
+        b"TargetConflict(Arch, arm, x86_64)".as_slice()
+    );
+    Ok(())
+}
+
 // Two patterns, and the symbols of `libfoo.so` that none of them matches.
 const EXCLUDED: [(&[u8], &[u8], &[u8]); 3] = [
     (b"b*", b"b*", b"foo "),
@@ -427,7 +497,7 @@ fn what_is_stripped(rt: HostRuntime) -> Result<(), Fail> {
 
 #[test]
 fn targets_in_a_text(rt: HostRuntime) -> Result<(), Fail> {
-    let strip = Strip {
+    let mut strip = Strip {
         arch: true,
         width: false,
         order: false,
@@ -437,5 +507,8 @@ fn targets_in_a_text(rt: HostRuntime) -> Result<(), Fail> {
     assert_eq!(rt; part.target().machine, None);
     assert!(rt; part.target().width == Some(Width::W64));
     assert_eq!(rt; part.symbols().len(), 2);
+    strip.target = true;
+    let none = strip_target(rt.alloc(), &part, &strip)?;
+    assert!(rt; *none.target() == no_target());
     Ok(())
 }

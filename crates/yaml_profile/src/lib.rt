@@ -4,6 +4,9 @@
 //!
 //! `read` looks for the faults of tokens first, which takes no memory, then cuts the text into tokens, and these into
 //! nodes. Beside the scalars that it answers it keeps the tokens, until it returns.
+//!
+//! No clause says when memory runs out, so a body of `scalar_text` or `append_scalar` that answers `Memory` alone meets
+//! them, and so does one of `read` for a text whose tokens have no fault; the tests have calls that succeed.
 #![tactic(auto)]
 
 mod laws;

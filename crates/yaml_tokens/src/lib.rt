@@ -2,6 +2,9 @@
 //! documents begin, how their lines are cut into comments, indicators and scalars, and what of that the
 //! profile refuses.
 //!
+//! No clause says when memory runs out, so a body that answers `Memory` alone meets those of each call that takes memory;
+//! the tests have calls that succeed.
+//!
 //! `find_fault` and `tokens` stand on one cutter, which goes over the bytes once. The finder takes no memory
 //! and goes first; the tokens keep nothing of the text but their scalars and tags.
 #![tactic(auto)]

@@ -1,130 +1,27 @@
-use crate::YamlKind::{BadByte, BadEscape, Shape, Tab, Unclosed, Unsupported};
+use crate::YamlKind::Shape;
 use crate::tests::printed::SCALARS;
-use crate::{Document, Entry, Node, YamlCause, YamlKind, read, scalar_text};
+use crate::tests::texts::{READ, REFUSED};
+use crate::{Document, Entry, Node, YamlCause, read, scalar_text};
 use ifs_bytes::{Memory, Text};
 use std::alloc::Global;
 use std::test::Fail;
 
-#[test]
-fn documents(rt: HostRuntime) -> Result<(), Fail> {
-    let texts: [(&[u8], &[u8]); 17] = [
-        (b"", b""),
-        (b" \t# c\n\n#", b""),
-        (b"---", b"-- ()"),
-        (
-            b"# c\n--- !t # c\n...\n\n---\t\n---\na\n... # c\n",
-            b"-- !t ()-- ()-- (a)",
-        ),
-        (
-            b"--- !ifs-v1\r\nA: 1\r\n'B' : 'x''y' # c\r\nC:\r\n",
-            b"-- !ifs-v1 {A=(1)B=(x'y)C=()}",
-        ),
-        (
-            b"---\na:\n- b\n-  c: d\n   e:   \n   - f\n-\n- \n  g: h\ni:\n  - j\nk: l\n",
-            b"-- {a=[(b){c=(d)e=[(f)]}(){g=(h)}]i=[(j)]k=(l)}",
-        ),
-        (
-            b"---\n- a b\n-\n  - b\n  -\n\n-   \"c\\x41\": \n- # c\n - d: e\n",
-            b"-- [(a b)[(b)()]{cA=()}[{d=(e)}]]",
-        ),
-        (
-            b"---\na:\n  b:\n    c: d\n    e:\n  f: g\nh: # c\n\n  # c\n   i: j\n",
-            b"-- {a={b={c=(d)e=()}f=(g)}h={i=(j)}}",
-        ),
-        (
-            b"---\n{a: [b, 'c' ,], \"d\":{e, f: , g:,}, # c\n# c\n h\n: i, 'j'\n:k}\n",
-            b"-- {a=[(b)(c)]d={e=()f=()g=()}h=(i)j=(k)}",
-        ),
-        (b"---\n[\n\t[], {}] # c", b"-- [[]{}]"),
-        (b"---\na: [b\n,c]\nd: {}\n", b"-- {a=[(b)(c)]d={}}"),
-        (b"---\nword two #3\n", b"-- (word two)"),
-        (b"---\n'' \n", b"-- ()"),
-        (b"---\n-a: -b\n-b: c:d\n", b"-- {-a=(-b)-b=(c:d)}"),
-        (b"---\n{a: -1, b: c d}\n", b"-- {a=(-1)b=(c d)}"),
-        (b"---\na: 1\na: 2\n", b"-- {a=(1)a=(2)}"),
-        (
-            b"---\n[[[[[[[[[[[[[[[[a]]]]]]]]]]]]]]]]\n",
-            b"-- [[[[[[[[[[[[[[[[(a)]]]]]]]]]]]]]]]]",
-        ),
-    ];
-    for (text, shown) in &texts {
-        let documents = read(rt.alloc(), text)?;
-        let found = show(rt.alloc(), documents.as_slice())?;
-        assert_eq!(rt; found.as_bytes(), *shown);
-    }
-    Ok(())
-}
-
-#[test]
-fn shapes(rt: HostRuntime) {
-    let texts: [(&[u8], u64); 28] = [
-        (b"x", 0),
-        (b"# c\n  x\n---\n", 4),
-        (b"%YAML 1.2\n---\n", 0),
-        (b"---\na: 1\n...\nb\n--- !t\n c\n", 13),
-        (b"--- # c\n---\n a: 1\n--- x\n", 8),
-        (b"---\na\n--- !t u\n", 0),
-        (b"---\n  a\n", 0),
-        (b"---\na:\n  b\n", 0),
-        (b"---\na:\n  {b: c}\n", 0),
-        (b"---\na: 1\n b: 2\n", 0),
-        (b"---\na:\n  b: 1\n c: 2\n", 0),
-        (b"---\n- a\n - b\n", 0),
-        (b"---\n- - a\n", 0),
-        (b"---\na: - b\n", 0),
-        (b"---\na: -\n", 0),
-        (b"---\n- a\nb: c\n", 0),
-        (b"---\na: 1\n- b\n", 0),
-        (b"---\n- a: b\n  - c\n", 0),
-        (b"---\na: b: c\n", 0),
-        (b"---\n'a':b\n", 0),
-        (b"---\n'a' b\n", 0),
-        (b"---\n[a] b\n", 0),
-        (b"---\n[a,,]\n", 0),
-        (b"---\n[a: b]\n", 0),
-        (b"---\n{,}\n", 0),
-        (b"---\n{a: b c: d}\n", 0),
-        (b"---\n{a:[b]}\n", 0),
-        (b"---\n?\n", 0),
-    ];
-    for (text, at) in &texts {
-        let cause = read(rt.alloc(), text).err();
-        assert_eq!(rt; cause, Some(YamlCause::At(*at, Shape)));
+// What reading a text answers: its documents, or the cause why it has none.
+fn told(alloc: Global, text: &str) -> Result<Text, Memory> {
+    match read(alloc, text.as_bytes()) {
+        Ok(documents) => show(alloc, documents.as_slice()),
+        Err(cause) => cause.printed(alloc),
     }
 }
 
 #[test]
-fn faults(rt: HostRuntime) -> Result<(), Fail> {
-    let texts: [(&[u8], u64, YamlKind, &[u8]); 9] = [
-        (b"---\n \ta: 1\n", 5, Tab, b"At(5, Tab)"),
-        (b"x\n---\na\rb", 7, BadByte, b"At(7, BadByte)"),
-        (b"---\n'a\nb'", 4, Unclosed, b"At(4, Unclosed)"),
-        (b"---\n'a''\n'b'", 4, Unclosed, b"At(4, Unclosed)"),
-        (b"---\n\"\\ud800\"", 5, BadEscape, b"At(5, BadEscape)"),
-        (b"---\na: |\n", 7, Unsupported, b"At(7, Unsupported)"),
-        (
-            b"x\n--- !a b\n---\n&a",
-            15,
-            Unsupported,
-            b"At(15, Unsupported)",
-        ),
-        (
-            b"--- !ifs-v1\n[[[[[[[[[[[[[[[[[]]]]]]]]]]]]]]]]]\n",
-            0,
-            Shape,
-            b"At(0, Shape)",
-        ),
-        (
-            b"--- !ifs-v1\n[[[[[[[[[[[[[[[[[]]]]]]]]]]]]]]]]\n",
-            12,
-            Unclosed,
-            b"At(12, Unclosed)",
-        ),
-    ];
-    for (text, at, kind, printed) in &texts {
-        let cause = YamlCause::At(*at, *kind);
-        assert_eq!(rt; read(rt.alloc(), text).err(), Some(cause));
-        assert_eq!(rt; cause.printed(rt.alloc())?.as_bytes(), *printed);
+fn texts(rt: HostRuntime) -> Result<(), Fail> {
+    for rows in READ.iter().chain(REFUSED.iter()) {
+        for row in rows.split(';') {
+            let (text, answer) = row.split_once('~').ok_or("no answer")?;
+            let got = told(rt.alloc(), text)?;
+            assert_eq!(rt; got.as_bytes(), answer.as_bytes(), "{text}");
+        }
     }
     Ok(())
 }
