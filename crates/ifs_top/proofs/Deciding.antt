@@ -1,8 +1,7 @@
 -- What `stub` answers, from what its inputs gave.
-use Rattle.std.proofs.Common.{◌≡◌, ℕ, ◌<◌, ◌⊎◌, Bool, true, false, List, [], ◌∷◌, Option, Some, None, Result, Ok, Err, refl, ap, sym, subst, ◌∙◌, inl, inr, lit<, arith}
+use Rattle.std.proofs.Common.{◌≡◌, ℕ, ◌<◌, Bool, true, false, List, [], ◌∷◌, Option, Some, None, Result, Ok, Err, ap, sym, subst, ◌∙◌, inl, inr, lit<, arith}
 use Rattle.std.specs.Prelude.{⊤, codes, IfSome, if◌then◌else◌}
 use Rattle.ifs_bytes.specs.Outcome.{◌>>=◌, UnlessMemory}
-use Rattle.ifs_outside.specs.Count.{Rose}
 use Rattle.ifs_outside.specs.Files.{FileMap}
 use Rattle.ifs_outside.specs.declared.counts.FileCounts.{FileCounts}
 use Rattle.elf_dyn.specs.Library.{library_of}
@@ -22,10 +21,10 @@ use Rattle.ifs_top.specs.declared.refusal.Refusal.TheVariants as refusals
 use Rattle.ifs_top.specs.declared.refusal.Stop.{Stop}
 use Rattle.ifs_top.specs.declared.refusal.Stop.TheVariants as stops
 use Rattle.ifs_top.specs.declared.reply.Reply.{Reply}
-use Rattle.ifs_top.specs.Inputs.{AreNamed, interface_in, is_library, library_in, read_inputs, text_in}
+use Rattle.ifs_top.specs.Inputs.{interface_in, is_library, library_in, read_inputs, text_in}
 use Rattle.ifs_top.specs.Outcome.{settled, stub_reply}
 use Rattle.ifs_top.specs.Refused.{each, or_refused}
-use Rattle.ifs_top.specs.Steps.{DecidesStub, DecideCounts, ReadsInputs, SaysMiss, Settles}
+use Rattle.ifs_top.specs.Steps.{DecidesStub, ReadsInputs, SaysMiss, Settles}
 use Rattle.ifs_top.specs.Stub.{outputs_of, stub_for, stub_of_inputs}
 
 -- ---- once all inputs are read, the status is below 3

@@ -1,5 +1,5 @@
 -- Steps of lists that are made one by one.
-use Rattle.std.proofs.Common.{◌≡◌, ◌⊎◌, List, [], ◌∷◌, ◌++◌, Result, Ok, Err, refl, ap, sym, ◌∙◌, append_assoc}
+use Rattle.std.proofs.Common.{◌≡◌, List, [], ◌∷◌, ◌++◌, Result, Ok, Err, refl, ap, sym, ◌∙◌, append_assoc}
 use Rattle.std.proofs.lemmas.List.{append-nil}
 use Rattle.ifs_bytes.specs.Outcome.{◌>>=◌}
 use Rattle.ifs_top.specs.declared.refusal.Refusal.{Refusal}

@@ -1,12 +1,12 @@
 -- What is true however a reply was delivered.
-use Rattle.std.proofs.Common.{◌≡◌, ◌≢◌, ℕ, ◌+◌, ◌<◌, ◌≤◌, ◌⊎◌, Bool, true, false, cond, List, [], ◌∷◌, length, Option, refl, sym, subst, ◌∙◌, inl, inr, arith}
+use Rattle.std.proofs.Common.{◌≡◌, ◌≢◌, ℕ, ◌+◌, ◌<◌, ◌≤◌, ◌⊎◌, List, [], ◌∷◌, length, Option, refl, sym, subst, inl, inr, arith}
 use Rattle.std.specs.Prelude.{codes, IfSome, Some, None}
 use Rattle.std.specs.Io.KnownBytes.{append_known}
 use Rattle.ifs_outside.specs.Count.{raised, Rose}
 use Rattle.ifs_top.specs.declared.reply.Output.{Output}
 use Rattle.ifs_top.specs.declared.reply.Reply.{Reply}
 use Rattle.ifs_top.specs.Outside.{Places, IfTold, Keeps, StopsWithin, PlaceRose, SameFaults, Faulted, Writes, after, written}
-use Rattle.ifs_top.specs.Reply.{fault_line, is_printed, Names, HasOutputs}
+use Rattle.ifs_top.specs.Reply.{fault_line, Names, HasOutputs}
 use Rattle.ifs_top.specs.Steps.{Says, Delivers, memory_line}
 
 pub keeps_stops : (outputs : List Output) (p q : Places) → Keeps p q → StopsWithin outputs p q

@@ -1,12 +1,10 @@
 -- Each sentence about a run, from what its steps promise.
-use Rattle.std.proofs.Common.{◌≡◌, ◌≢◌, ℕ, ◌<◌, ◌≤◌, ◌⊎◌, List, [], length, Option, Some, None, Result, Ok, Err, refl, sym, ap, subst, ◌∙◌, inl, inr, lit<, arith}
+use Rattle.std.proofs.Common.{◌≡◌, ◌≢◌, ℕ, ◌<◌, ◌≤◌, List, [], length, Option, Some, None, Result, Ok, Err, refl, sym, ap, subst, ◌∙◌, inl, inr, lit<, arith}
 use Rattle.std.specs.Prelude.{codes, IfSome}
 use Rattle.std.specs.Io.KnownBytes.{append_known}
 use Rattle.ifs_outside.specs.Count.{raised, Rose}
-use Rattle.ifs_outside.specs.Files.{FileMap, reading}
+use Rattle.ifs_outside.specs.Files.{FileMap}
 use Rattle.ifs_outside.specs.declared.counts.FileCounts.{FileCounts}
-use Rattle.ifs_outside.specs.declared.cause.ReadCause.TheVariants.{Missing, TooLarge}
-use Rattle.ifs_top.specs.declared.limits.TheConstants.{MOST_FILE_BYTES}
 use Rattle.ifs_top.specs.declared.reply.Output.{Output}
 use Rattle.ifs_top.specs.declared.reply.Reply.{Reply}
 use Rattle.ifs_top.specs.declared.refusal.Stop.{Stop}
@@ -14,7 +12,6 @@ use Rattle.ifs_top.specs.declared.refusal.Stop.TheVariants as stops
 use Rattle.ifs_words.specs.declared.cause.WordCause.{WordCause}
 use Rattle.ifs_words.specs.declared.command.Command.{Command}
 use Rattle.ifs_words.specs.declared.command.Command.TheVariants.{Stub}
-use Rattle.ifs_top.specs.Inputs.{AreNamed}
 use Rattle.ifs_top.specs.Outcome.{outcome, refused_words}
 use Rattle.ifs_top.specs.Outside.{Places, Outside, StopsWithin, PlaceRose, places, written}
 use Rattle.ifs_top.specs.Reply.{fault_line, Names}

@@ -1,7 +1,5 @@
 -- Options that change nothing leave an interface as it is.
-use Rattle.std.proofs.Common.{◌≡◌, ℕ, Bool, true, false, not, ◌&&◌, List, [], ◌∷◌, map, filter, Option, Some, None, Result, Ok, Err, refl, ap, ◌∙◌}
-use Rattle.std.specs.Prelude.{is_none, ◌||◌}
-use Rattle.ifs_bytes.specs.Outcome.{◌>>=◌}
+use Rattle.std.proofs.Common.{◌≡◌, ℕ, Bool, true, false, List, [], ◌∷◌, map, filter, Option, Some, None, Ok, refl, ap}
 use Rattle.ifs_bytes.specs.declared.form.Order.{Order}
 use Rattle.ifs_bytes.specs.declared.form.Width.{Width}
 use Rattle.ifs_interface.specs.declared.symbol.Symbol.{Symbol}
@@ -10,12 +8,11 @@ use Rattle.ifs_interface.specs.declared.target.TargetField.{TargetField}
 use Rattle.ifs_interface.specs.Interface.{InterfaceRecord}
 use Rattle.ifs_interface.specs.Parts.{parts_of}
 use Rattle.ifs_edit.specs.declared.adjusted.AdjustOptions.{AdjustOptions}
-use Rattle.ifs_edit.specs.declared.cause.AdjustCause.{AdjustCause}
 use Rattle.ifs_edit.specs.declared.element.Element.{Element}
 use Rattle.ifs_edit.specs.declared.strip.Strip.{Strip}
-use Rattle.ifs_edit.specs.Adjusted.{adjusted, agree, changed, filled, is_kept, kept_symbols, machines_agree, or_given, orders_agree, sized, targets_agree, triples_agree, widths_agree}
+use Rattle.ifs_edit.specs.Adjusted.{adjusted, agree, changed, filled, is_kept, kept_symbols, or_given, sized, targets_agree}
 use Rattle.ifs_edit.specs.Stripped.{no_target, stripped, target_left}
-use Rattle.ifs_top.specs.Unchanged.{changes_nothing, is_empty, strips_nothing}
+use Rattle.ifs_top.specs.Unchanged.{changes_nothing, strips_nothing}
 
 -- the options that change nothing
 abbrev none : AdjustOptions

@@ -1,5 +1,5 @@
 -- What a command answers, by its words and the files alone.
-use Rattle.std.specs.Prelude.{ℕ, List, codes, Result, Ok, Err}
+use Rattle.std.specs.Prelude.{codes, Result, Ok, Err}
 use Rattle.ifs_bytes.specs.Outcome.{◌>>=◌}
 use Rattle.ifs_outside.specs.Files.{FileMap}
 use Rattle.ifs_words.specs.Printed.{printed_word_cause}

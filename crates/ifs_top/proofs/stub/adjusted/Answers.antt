@@ -1,4 +1,4 @@
-use Rattle.std.proofs.Common.{ap, sym, inr, ◌∙◌}
+use Rattle.std.proofs.Common.{ap, sym, inr}
 use Rattle.std.specs.Prelude.{codes}
 use Rattle.ifs_edit.specs.Printed.{printed_adjust_cause}
 use Rattle.ifs_top.specs.Refused.{or_refused}
