@@ -9,3 +9,4 @@ pub mod Sorting
 pub mod UnitedNames
 pub mod Sameness
 pub mod Reordered
+pub mod Alone

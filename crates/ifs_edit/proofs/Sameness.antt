@@ -1,7 +1,7 @@
 -- What is the same by the tests is equal, and passes the tests with itself.
 use Rattle.std.proofs.Common.{◌≡◌, ℕ, Bool, true, false, ◌&&◌, List, [], ◌∷◌, Option, Some, None, refl, ap}
 use Rattle.std.specs.Prelude.{nat_eq}
-use Rattle.std.proofs.lemmas.Bool.{false≢true, and_parts, eqb-true, eq-eqb}
+use Rattle.std.proofs.lemmas.Bool.{false≢true, and_from, and_parts, eqb-true, eq-eqb}
 use Rattle.ifs_bytes.specs.declared.form.Order.{Order}
 use Rattle.ifs_bytes.specs.declared.form.Order.TheVariants.{Little, Big}
 use Rattle.ifs_bytes.specs.declared.form.Width.{Width}
@@ -112,6 +112,25 @@ target_is a b h =
     let orders = optional_is same_order order_is a.order b.order third.1 in
     let widths = optional_is same_width width_is a.width b.width last.1 in
     λ i. record { triple = triples i; machine = machines i; order = orders i; width = widths i }
+
+order_itself : (a : Order) → same_order a a ≡ true
+order_itself Little = refl
+order_itself Big = refl
+
+width_itself : (a : Width) → same_width a a ≡ true
+width_itself W32 = refl
+width_itself W64 = refl
+
+pub names_itself : (a : List (List ℕ)) → same_names a a ≡ true
+names_itself [] = refl
+names_itself (n ∷ a) = and_from (same_name n n) (same_names a a) (same_name-itself n) (names_itself a)
+
+pub soname_itself : (a : Option (List ℕ)) → same_soname a a ≡ true
+soname_itself a = optional_itself same_name same_name-itself a
+
+pub target_itself : (a : Target) → same_target a a ≡ true
+target_itself a =
+    rw (optional_itself same_name same_name-itself a.triple, optional_itself same_machine (λ n. eq-eqb n n refl) a.machine, optional_itself same_order order_itself a.order) (optional_itself same_width width_itself a.width)
 
 -- ---- symbols
 

@@ -89,7 +89,7 @@ module _ {X : Type 0} (key : X → List ℕ) where
       let differs : (x : X) → is_named n x ≡ true → is_named m x ≡ false = λ x e. subst (λ k. same_name k m ≡ false) (sym (same_name-is (key x) n e)) (before_differs n m g) in
       filter-append (is_named m) run others ∙ ap (λ xs. xs ++ filter (is_named m) others) (filter_none (is_named m) (is_named n) differs run h)
 
-  groups_of_run : (x : X) (run others : List X) → list_all (is_named (key x)) (x ∷ run) ≡ true → list_all (is_after (key x)) others ≡ true → grouped ((x ∷ run) ++ others) ≡ (x ∷ run) ∷ grouped others
+  pub groups_of_run : (x : X) (run others : List X) → list_all (is_named (key x)) (x ∷ run) ≡ true → list_all (is_after (key x)) others ≡ true → grouped ((x ∷ run) ++ others) ≡ (x ∷ run) ∷ grouped others
   groups_of_run x run others h g =
       let n = key x in
       let all = (x ∷ run) ++ others in

@@ -1,5 +1,4 @@
 pub mod Deciding
-pub mod Each
 pub mod Ends
 pub mod Reading
 pub mod Sentences

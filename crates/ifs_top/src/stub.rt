@@ -1,6 +1,6 @@
 //! The command `stub`: the interface of libraries and texts, as a text and as a stub library.
 
-ghost use Rattle.std.specs.Prelude.{◌≡◌, ◌<◌, ◌++◌, codes, length, IfOk, OnOk, Result};
+ghost use Rattle.std.specs.Prelude.{◌≡◌, ◌<◌, ◌++◌, ◌∷◌, [], codes, length, IfOk, Ok, OnOk, Result};
 ghost use Rattle.std.specs.Option.{option_copied};
 ghost use Rattle.ifs_bytes.specs.Outcome.{UnlessMemory};
 ghost use Rattle.ifs_edit.specs.Adjusted.{adjusted};
@@ -28,12 +28,16 @@ use ifs_text::print;
 use ifs_words::StubWords;
 use std::alloc::Global;
 
-// What the inputs are together.
+// What the inputs are together; one alone is itself, and isn't copied.
 fn merged(alloc: Global, interfaces: List<Interface>) -> Result<Interface, Refusal>
     requires { 0 < length interfaces }
     ensures { UnlessMemory refusals.Memory result (or_refused (codes "merge") printed_merge_cause (merged interfaces)) }
 {
-    match merge(alloc, interfaces.as_slice()) {
+    let mut list = interfaces.into_vec();
+    if list.len() == 1 {
+        return Ok(alone(list.swap_remove(0)));
+    }
+    match merge(alloc, list.as_slice()) {
         Ok(interface) => Ok(interface),
         Err(MergeCause::Memory) => Err(Refusal::Memory),
         Err(cause) => {
@@ -41,6 +45,15 @@ fn merged(alloc: Global, interfaces: List<Interface>) -> Result<Interface, Refus
             Err(refuse(alloc, b"merge", text.as_bytes(), 1))
         }
     }
+}
+
+// The interface, which is what it is merged alone.
+fn alone(interface: Interface) -> Interface
+    ensures same { result ≡ interface }
+    ensures merged { merged (interface ∷ []) ≡ Ok interface }
+{
+    let _own = interface.symbols();
+    interface
 }
 
 // Whether options change nothing.
