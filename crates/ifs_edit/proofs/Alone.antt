@@ -1,20 +1,17 @@
 -- One interface alone is merged as it is.
-use Rattle.std.proofs.Common.{◌≡◌, ℕ, Bool, true, ◌&&◌, List, [], ◌∷◌, ◌++◌, map, cond, not, Some, None, Ok, refl, sym, ap, ◌∙◌}
+use Rattle.std.proofs.Common.{◌≡◌, ℕ, true, List, [], ◌∷◌, ◌++◌, map, cond, not, Some, None, Ok, refl, sym, ap, ◌∙◌}
 use Rattle.std.specs.List.{list_all}
 use Rattle.std.proofs.lemmas.Bool.{and_from, and_parts}
 use Rattle.std.proofs.lemmas.List.{append-nil}
 use Rattle.std.proofs.lemmas.List.Folds.{list_all-map}
-use Rattle.ifs_bytes.specs.Outcome.{◌>>=◌}
 use Rattle.ifs_interface.specs.declared.symbol.Symbol.{Symbol}
-use Rattle.ifs_interface.specs.declared.target.Target.{Target}
-use Rattle.ifs_interface.specs.Interface.{InterfaceRecord, IsInterface, ascends, comes_before, names_of}
-use Rattle.ifs_interface.specs.Triple.{same_name}
+use Rattle.ifs_interface.specs.Interface.{InterfaceRecord, ascends, comes_before, names_of}
 use Rattle.ifs_interface.proofs.Groups.{groups_of_run, is_after, is_named}
 use Rattle.ifs_interface.proofs.Names.{same_name-itself}
 use Rattle.ifs_edit.specs.declared.united.Field.{Field}
 use Rattle.ifs_edit.specs.declared.united.Field.TheVariants as fields
 use Rattle.ifs_edit.specs.Laws.{MergesAlone}
-use Rattle.ifs_edit.specs.Merged.{agree_in, all_agree, all_symbols, by_name, merged, parts_agree, same_in, same_names, same_parts, same_soname, same_target, united, united_each, unless_other, with_symbols}
+use Rattle.ifs_edit.specs.Merged.{agree_in, all_agree, by_name, merged, parts_agree, same_parts, united, united_each, unless_other}
 use Rattle.ifs_edit.proofs.Sameness.{in_itself, names_itself, soname_itself, target_itself}
 
 abbrev name : Symbol → List ℕ

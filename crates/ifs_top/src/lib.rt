@@ -7,6 +7,7 @@
 #![tactic(auto)]
 
 mod deliver;
+mod edits;
 mod inputs;
 mod limits;
 mod refusal;
