@@ -82,7 +82,7 @@ fn has_entry(entries: &[Entry], key: &[u8]) -> bool
 
 /// The value of a key.
 #[tactic(auto, unfolding(crate::specs::Maps::value_at))]
-pub(crate) fn value_at<'a>(entries: &'a [Entry], key: &[u8]) -> Option<&'a Node>
+pub(crate) fn value_at<'a, 't>(entries: &'a [Entry<'t>], key: &[u8]) -> Option<&'a Node<'t>>
     ensures { option_copied result ≡ value_at key.now entries.now }
 {
     for entry in entries {

@@ -1,12 +1,13 @@
 //! A text to its interface.
 
-ghost use Rattle.std.specs.Prelude.{◌≡◌, ◌++◌, IfOk, OnOk, unwrap_or};
+ghost use Rattle.std.specs.Prelude.{◌≡◌, ◌++◌, [], IfOk, OnOk, unwrap_or};
+ghost use Rattle.yaml_nodes.specs.Nodes.{items_of};
 ghost use Rattle.std.specs.List.{filter_map};
 ghost use Rattle.std.specs.Option.{option_copied, option_to_list};
 ghost use Rattle.ifs_bytes.specs.Outcome.{UnlessMemory};
 ghost use Rattle.ifs_interface.specs.Interface.{names_of};
 ghost use Rattle.ifs_text.specs.Values.{name_in};
-ghost use Rattle.ifs_text.specs.Parts.{soname_of, target_of, needed_of, symbols_of, listed_at};
+ghost use Rattle.ifs_text.specs.Parts.{said, soname_of, target_of, needed_of, symbols_of, listed_at};
 ghost use Rattle.ifs_text.specs.declared.cause.TextCause.TheVariants as TextCause;
 ghost use Rattle.ifs_text.specs.Text.{root_of, second, interface_said, interface_in_map, interface_in, interface_of_text};
 
@@ -24,7 +25,7 @@ use yaml_profile::{Document, Entry, Node};
 
 #[tactic(auto, unfolding(crate::specs::Text::root_of))]
 // The entries of the root, where there is one document, it has the tag, and its root is a map.
-fn root_of(documents: &[Document]) -> Option<&[Entry]>
+fn root_of<'a, 't>(documents: &'a [Document<'t>]) -> Option<&'a [Entry<'t>]>
     ensures { option_copied result ≡ root_of documents.now }
 {
     match documents {
@@ -36,21 +37,32 @@ fn root_of(documents: &[Document]) -> Option<&[Entry]>
     }
 }
 
-// The items of the list that a key has.
-#[tactic(auto, unfolding(crate::specs::Parts::listed_at))]
-fn listed_at<'a>(entries: &'a [Entry], key: &[u8]) -> &'a [Node]
-    ensures { result.now ≡ listed_at key.now entries.now }
+// The items that are there, or none.
+fn or_none<'a, T>(items: Option<&'a [T]>) -> &'a [T]
+    ensures { result.now ≡ unwrap_or (option_copied items.entry) [] }
 {
-    match value_at(entries, key) {
-        Some(value) => match value.as_seq() {
-            Some(items) => items,
-            None => &[],
-        },
+    match items {
+        Some(items) => items,
         None => &[],
     }
 }
 
-fn said_soname(entries: &[Entry]) -> Option<&[u8]>
+// The items of the list that a key has, where it has one.
+fn said_items<'a, 't>(entries: &'a [Entry<'t>], key: &[u8]) -> Option<&'a [Node<'t>]>
+    ensures { option_copied result ≡ said items_of key.now entries.now }
+{
+    value_at(entries, key)?.as_seq()
+}
+
+// The items of the list that a key has.
+#[tactic(auto, unfolding(crate::specs::Parts::listed_at))]
+fn listed_at<'a, 't>(entries: &'a [Entry<'t>], key: &[u8]) -> &'a [Node<'t>]
+    ensures { result.now ≡ listed_at key.now entries.now }
+{
+    or_none(said_items(entries, key))
+}
+
+fn said_soname<'a>(entries: &'a [Entry<'_>]) -> Option<&'a [u8]>
     ensures { option_copied result ≡ soname_of entries.now }
 {
     name_in(value_at(entries, b"SoName")?)

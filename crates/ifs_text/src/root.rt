@@ -58,7 +58,7 @@ fn has_version(entries: &[Entry]) -> bool
 
 // What is wrong with the version.
 #[tactic(auto, unfolding(crate::specs::Faults::version_fault))]
-fn version_fault(entries: &[Entry]) -> Option<Fault<'_>>
+fn version_fault<'a>(entries: &'a [Entry<'_>]) -> Option<Fault<'a>>
     ensures { result ≡ version_fault entries.now }
 {
     if has_version(entries) {
@@ -88,14 +88,14 @@ fn value_fault<'a>(key: &'a [u8], value: &'a Node) -> Option<Fault<'a>>
 }
 
 #[tactic(auto, unfolding(crate::specs::Faults::root_value_fault))]
-fn root_value_fault(entry: &Entry) -> Option<Fault<'_>>
+fn root_value_fault<'a>(entry: &'a Entry<'_>) -> Option<Fault<'a>>
     ensures { result ≡ root_value_fault entry.now }
 {
     value_fault(entry.key.as_bytes(), &entry.value)
 }
 
 // The first thing that is wrong with the values.
-fn values_fault(entries: &[Entry]) -> Option<Fault<'_>>
+fn values_fault<'a>(entries: &'a [Entry<'_>]) -> Option<Fault<'a>>
     ensures { result ≡ first_of root_value_fault entries.now }
 {
     for entry in entries {
@@ -108,7 +108,7 @@ fn values_fault(entries: &[Entry]) -> Option<Fault<'_>>
 
 /// What is wrong with the map of the root: its keys, the version, and then the other values.
 #[tactic(auto, unfolding(crate::specs::Faults::root_fault))]
-pub(crate) fn root_fault(entries: &[Entry]) -> Option<Fault<'_>>
+pub(crate) fn root_fault<'a>(entries: &'a [Entry<'_>]) -> Option<Fault<'a>>
     ensures { result ≡ root_fault entries.now }
 {
     if let Some(fault) = keys_fault(MapKind::Root, entries) {

@@ -36,7 +36,7 @@ fn is_symbol_value(key: &[u8], value: &Node) -> bool
 }
 
 #[tactic(auto, unfolding(crate::specs::Faults::symbol_value_fault))]
-fn symbol_value_fault(entry: &Entry) -> Option<Fault<'_>>
+fn symbol_value_fault<'a>(entry: &'a Entry<'_>) -> Option<Fault<'a>>
     ensures { result ≡ symbol_value_fault entry.now }
 {
     let key = entry.key.as_bytes();
@@ -44,7 +44,7 @@ fn symbol_value_fault(entry: &Entry) -> Option<Fault<'_>>
 }
 
 // The first value of a symbol that hasn't its form.
-fn symbol_values_fault(entries: &[Entry]) -> Option<Fault<'_>>
+fn symbol_values_fault<'a>(entries: &'a [Entry<'_>]) -> Option<Fault<'a>>
     ensures { result ≡ first_of symbol_value_fault entries.now }
 {
     for entry in entries {
@@ -57,7 +57,7 @@ fn symbol_values_fault(entries: &[Entry]) -> Option<Fault<'_>>
 
 // What is wrong with the map of a symbol.
 #[tactic(auto, unfolding(crate::specs::Faults::symbol_map_fault))]
-fn symbol_map_fault(entries: &[Entry]) -> Option<Fault<'_>>
+fn symbol_map_fault<'a>(entries: &'a [Entry<'_>]) -> Option<Fault<'a>>
     ensures { result ≡ symbol_map_fault entries.now }
 {
     match keys_fault(MapKind::Symbol, entries) {
@@ -128,14 +128,14 @@ fn is_said(entries: &[Entry], key: &[u8]) -> bool
 }
 
 // Its warning.
-fn said_warning(entries: &[Entry]) -> Option<&[u8]>
+fn said_warning<'a>(entries: &'a [Entry<'_>]) -> Option<&'a [u8]>
     ensures { option_copied result ≡ said_warning entries.now }
 {
     value_at(entries, b"Warning")?.as_scalar()
 }
 
 // Its name.
-fn said_name(entries: &[Entry]) -> Option<&[u8]>
+fn said_name<'a>(entries: &'a [Entry<'_>]) -> Option<&'a [u8]>
     ensures { option_copied result ≡ said_name entries.now }
 {
     name_in(value_at(entries, b"Name")?)

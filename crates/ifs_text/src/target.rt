@@ -42,7 +42,7 @@ fn is_part_value(key: &[u8], value: &Node) -> bool
 }
 
 #[tactic(auto, unfolding(crate::specs::Faults::part_fault))]
-fn part_fault(entry: &Entry) -> Option<Fault<'_>>
+fn part_fault<'a>(entry: &'a Entry<'_>) -> Option<Fault<'a>>
     ensures { result ≡ part_fault entry.now }
 {
     let key = entry.key.as_bytes();
@@ -50,7 +50,7 @@ fn part_fault(entry: &Entry) -> Option<Fault<'_>>
 }
 
 // The first value that hasn't its form.
-fn part_values_fault(entries: &[Entry]) -> Option<Fault<'_>>
+fn part_values_fault<'a>(entries: &'a [Entry<'_>]) -> Option<Fault<'a>>
     ensures { result ≡ first_of part_fault entries.now }
 {
     for entry in entries {
@@ -63,7 +63,7 @@ fn part_values_fault(entries: &[Entry]) -> Option<Fault<'_>>
 
 // What is wrong with the map of a target.
 #[tactic(auto, unfolding(crate::specs::Faults::parts_fault))]
-fn parts_fault(entries: &[Entry]) -> Option<Fault<'_>>
+fn parts_fault<'a>(entries: &'a [Entry<'_>]) -> Option<Fault<'a>>
     ensures { result ≡ parts_fault entries.now }
 {
     match keys_fault(MapKind::Target, entries) {

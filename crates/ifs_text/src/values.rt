@@ -30,7 +30,7 @@ fn is_proper_name(name: &[u8]) -> bool
 
 /// A proper name.
 #[tactic(auto, unfolding(crate::specs::Values::name_in))]
-pub(crate) fn name_in(node: &Node) -> Option<&[u8]>
+pub(crate) fn name_in<'a>(node: &'a Node<'_>) -> Option<&'a [u8]>
     ensures { option_copied result ≡ name_in node.now }
 {
     let name = node.as_scalar()?;

@@ -12,6 +12,7 @@ use Rattle.yaml_nodes.specs.Flow.{Flow, flow}
 use Rattle.yaml_nodes.specs.Block.{begins_entry, begins_item, map_goes_on, seq_goes_on, stands_below, is_missing, Value, inline, below, missing, BlockEntry, pair, BlockItem, compact, other, BlockNode, entries, items, Block, block_value, block_entry, block_item, block_map, block_seq, block_with, block}
 use Rattle.yaml_nodes.proofs.Fronts.{same_some, made_from}
 use Rattle.yaml_nodes.proofs.FlowAgrees.{begins_flow, BeginsFlow, flow_begins, flow_agrees}
+use Rattle.yaml_nodes.proofs.Rounds.{Shrinks, shrinks}
 use Rattle.yaml_nodes.proofs.ListsAgree.{OnLines, lined_complete, lined_shorter, lined_sound}
 
 -- a reading that may take no token
@@ -197,6 +198,21 @@ level_agrees In flow a begins Below block b n = record { sound = sound_by; compl
 pub block_agrees : (depth n : ℕ) → Agrees (Block depth n) (block depth n)
 block_agrees zero n = record { sound = λ ts r h. absurd (cc); complete = λ ts rest v h. absurd h; shorter = λ ts rest v h. absurd h }
 block_agrees (suc depth) n = level_agrees (Flow depth) (flow depth) (flow_agrees depth) (flow_begins depth) (Block depth) (block depth) (block_agrees depth) n
+
+-- the readings of entries and items take at least one token
+value_at : (depth n : ℕ) (level : Bool) → Gives (Value (Flow depth) (Block depth) level n) (block_value (flow depth) (block depth) level n)
+value_at depth n level = value_gives (Flow depth) (flow depth) (flow_agrees depth) (flow_begins depth) (Block depth) (block depth) (block_agrees depth) level n
+
+pub entry_shrinks : (depth n : ℕ) → Shrinks (block_entry (block_value (flow depth) (block depth) true n))
+entry_shrinks depth n =
+    let V : Grammar Node = Value (Flow depth) (Block depth) true n in
+    shrinks (BlockEntry V) (block_entry (block_value (flow depth) (block depth) true n)) (entry_agrees V (block_value (flow depth) (block depth) true n) (value_at depth n true))
+
+pub item_shrinks : (depth n : ℕ) → Shrinks (block_item (block depth) (block_value (flow depth) (block depth) false n))
+item_shrinks depth n =
+    let V : Grammar Node = Value (Flow depth) (Block depth) false n in
+    shrinks (BlockItem (Block depth) V) (block_item (block depth) (block_value (flow depth) (block depth) false n))
+    (item_agrees (Block depth) (block depth) (block_agrees depth) V (block_value (flow depth) (block depth) false n) (value_at depth n false))
 
 -- what a block begins with
 or_true : (a b : Bool) → b ≡ true → a || b ≡ true

@@ -11,6 +11,7 @@ use Rattle.yaml_nodes.specs.Front.{Front, front, Grammar, Reading, made, Agrees}
 use Rattle.yaml_nodes.specs.Lists.{begins_with, listed}
 use Rattle.yaml_nodes.specs.Flow.{IsScalar, scalar, ends_entry, FlowEntry, whole, valueless, alone, InBrackets, map, seq, Flow, closes, behind_key, flow_entry, scalar_front, flow_with, flow}
 use Rattle.yaml_nodes.proofs.Fronts.{same_some, made_from, chosen}
+use Rattle.yaml_nodes.proofs.Rounds.{Shrinks, shrinks}
 use Rattle.yaml_nodes.proofs.ListsAgree.{Closing, listed_complete, listed_shorter, listed_sound}
 
 -- what a node in flow begins with
@@ -166,3 +167,10 @@ flow_agrees (suc depth) = record {
   complete = level_complete (Flow depth) (flow depth) (flow_agrees depth) (flow_begins depth);
   shorter = level_shorter (Flow depth) (flow depth) (flow_agrees depth) (flow_begins depth);
 }
+
+-- the readings take at least one token
+pub flow_shrinks : (depth : ℕ) → Shrinks (flow depth)
+flow_shrinks depth = shrinks (Flow depth) (flow depth) (flow_agrees depth)
+
+pub entry_shrinks : (depth : ℕ) → Shrinks (flow_entry (flow depth))
+entry_shrinks depth = shrinks (FlowEntry (Flow depth)) (flow_entry (flow depth)) (entry_agrees (Flow depth) (flow depth) (flow_agrees depth) (flow_begins depth))

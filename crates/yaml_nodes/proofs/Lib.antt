@@ -3,5 +3,7 @@ pub mod Fronts
 pub mod ListsAgree
 pub mod FlowAgrees
 pub mod BlockAgrees
+pub mod Rounds
 pub mod DocumentTurns
 pub mod DocumentsAgree
+pub mod Parts

@@ -12,7 +12,7 @@ pub record Closing (close : Token) (closes : Token → Bool) : Type 0 where
   pub alone : (t : Token) → closes t ≡ true → t ≡ close
   pub stays : (rest : List Token) → next_item closes (close ∷ rest) ≡ Some (close ∷ rest)
 
-next_is : (closes : Token → Bool) (ts left : List Token) → next_item closes ts ≡ Some left → (ts ≡ token.Comma ∷ left) ⊎ ((ts ≡ left) × (begins_with closes ts ≡ true))
+pub next_is : (closes : Token → Bool) (ts left : List Token) → next_item closes ts ≡ Some left → (ts ≡ token.Comma ∷ left) ⊎ ((ts ≡ left) × (begins_with closes ts ≡ true))
 next_is closes (token.Comma ∷ rest) left h = inl (ap (λ w. token.Comma ∷ w) (same_some rest left h))
 next_is closes ts left h = inr (chosen (begins_with closes ts) ts left h)
 

@@ -1,7 +1,8 @@
 -- The documents of a text (YAML 1.2, chapter 9), cut by the lines that begin and end them alone.
-use Rattle.std.specs.Prelude.{◌≡◌, ℕ, ◌+◌, take, Bool, true, false, ◌||◌, ◌==◌, List, [], ◌∷◌, ◌++◌, Option, Some, None, Result, Ok, Err, ◌⊎◌, if◌then◌else◌}
+use Rattle.std.specs.Prelude.{◌≡◌, ℕ, Bool, true, false, ◌||◌, ◌==◌, List, [], ◌∷◌, ◌++◌, Option, Some, None, Result, Ok, Err, ◌⊎◌, if◌then◌else◌}
 use Rattle.yaml_tokens.specs.declared.token.Token.{Token}
 use Rattle.yaml_tokens.specs.declared.token.Token.TheVariants as token
+use Rattle.yaml_tokens.specs.Parts.{body}
 use Rattle.yaml_tokens.specs.declared.kind.YamlKind.TheVariants.{Shape}
 use Rattle.yaml_nodes.specs.declared.node.Node.{Node}
 use Rattle.yaml_nodes.specs.declared.document.Document.{Document}
@@ -21,19 +22,6 @@ pub data Root : List Token → Node → Type 0 where
   nothing : Root [] blank
   inline : {ts : List Token} {value : Node} → Flow max_depth ts value [] → Root (token.Line 0 ∷ ts) value
   lines : {ts : List Token} {value : Node} → Block max_depth 0 ts value [] → Root (token.Line 0 ∷ ts) value
-
--- the tokens up to the next document, or to a line outside documents
-abbrev pub begins_part : Token → Bool
-begins_part (token.Begin at tag) = true
-begins_part (token.Stray at) = true
-begins_part _ = false
-
-abbrev pub body_size : List Token → ℕ
-body_size [] = 0
-body_size (t ∷ ts) = if begins_part t then 0 else 1 + body_size ts
-
-abbrev pub body : List Token → List Token
-body ts = take (body_size ts) ts
 
 -- a document, by the offset of its first line, its tag and its tokens; or a line outside documents, by its offset
 pub data Part : Type 0 where
@@ -113,3 +101,8 @@ added _ ts = Ok []
 abbrev pub Adds : Result (Unit {0}) YamlCause → List Document → List Document → Result (List Document) YamlCause → Type 0
 Adds (Ok _) old new meant = Ok new ≡ behind_documents old meant
 Adds (Err cause) old new meant = (cause ≡ Memory) ⊎ (Err cause ≡ meant)
+
+-- the tokens are those of one document, which is the last of a text
+abbrev pub EndsAs : List Token → Option Document → Type 0
+EndsAs ts None = Unit {0}
+EndsAs ts (Some d) = documents_of (parts ts) ≡ Ok (d ∷ [])

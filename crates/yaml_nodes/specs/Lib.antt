@@ -6,3 +6,4 @@ pub mod Block
 pub mod Documents
 pub mod Printed
 pub mod Laws
+pub mod Held

@@ -1,7 +1,6 @@
 //! Nodes in flow (YAML 1.2, chapter 7).
 
-ghost use Rattle.std.specs.Prelude.{◌≡◌, ◌++◌, ◌∷◌, [], length, IfOk, OnOk};
-ghost use Rattle.std.specs.Option.{option_copied};
+ghost use Rattle.std.specs.Prelude.{◌≡◌, ◌∷◌, length, Some, IfOk};
 ghost use Rattle.yaml_nodes.specs.declared.node.Node.TheVariants as node;
 ghost use Rattle.yaml_nodes.specs.declared.flow.Brackets.TheVariants.{Curly, Square};
 ghost use Rattle.yaml_nodes.specs.Nodes.{entry, blank};
@@ -10,27 +9,43 @@ ghost use Rattle.yaml_nodes.specs.Lists.{begins_with, tail, next_item, listed};
 ghost use Rattle.yaml_nodes.specs.Flow.{ends_entry, closes, flow_value, behind_key, flow_entry, scalar_front, flow_with, flow};
 
 use crate::found::Found;
-use crate::node::{Entry, Node};
-use ifs_bytes::{Memory, Text};
+use crate::node::{Entry, Node, Scalar, push_item};
+use ifs_bytes::Memory;
 use sqlite_items::Items;
 use std::alloc::Global;
-use yaml_tokens::Token;
+use yaml_tokens::{Token, Tokens, Written};
 
 /// The node in flow at the front of tokens, with at most `depth` maps and sequences in one another; None exactly
 /// where there is none. The only error is want of memory.
-#[cycle(flow)]
-#[tactic(auto, using(crate::proofs::Turns::deeper))]
+#[tactic(auto, using(crate::proofs::Turns::flow_empty))]
 pub fn flow_node<'a>(
     alloc: Global,
     depth: u8,
-    tokens: &'a [Token],
-) -> Result<Option<Found<'a, Node>>, Memory>
-    ensures { IfOk result (λ found. found ≡ flow depth tokens.now) }
+    tokens: Tokens<'a>,
+) -> Result<Option<Found<'a, Node<'a>>>, Memory>
+    ensures { IfOk result (λ found. found ≡ flow depth tokens.entry) }
+{
+    match tokens.split() {
+        Some((first, rest)) => flow_first(alloc, depth, first, rest),
+        None => Ok(None),
+    }
+}
+
+/// The same, where the first token is taken apart from the rest.
+#[cycle(flow)]
+#[tactic(auto, using(crate::proofs::Turns::deeper))]
+pub fn flow_first<'a>(
+    alloc: Global,
+    depth: u8,
+    first: Token<'a>,
+    rest: Tokens<'a>,
+) -> Result<Option<Found<'a, Node<'a>>>, Memory>
+    ensures { IfOk result (λ found. found ≡ flow depth (first.entry ∷ rest.entry)) }
 {
     if depth == 0 {
-        scalar_front(alloc, tokens)
+        scalar_first(alloc, first, rest)
     } else {
-        flow_with(alloc, depth - 1, tokens)
+        flow_with(alloc, depth - 1, first, rest)
     }
 }
 
@@ -39,27 +54,42 @@ pub fn flow_node<'a>(
 fn flow_with<'a>(
     alloc: Global,
     depth: u8,
-    tokens: &'a [Token],
-) -> Result<Option<Found<'a, Node>>, Memory>
-    ensures { IfOk result (λ found. found ≡ flow_with (flow depth) tokens.now) }
+    first: Token<'a>,
+    rest: Tokens<'a>,
+) -> Result<Option<Found<'a, Node<'a>>>, Memory>
+    ensures { IfOk result (λ found. found ≡ flow_with (flow depth) (first.entry ∷ rest.entry)) }
 {
-    match tokens {
-        [Token::OpenMap, rest @ ..] => flow_map(alloc, depth, rest),
-        [Token::OpenSeq, rest @ ..] => flow_seq(alloc, depth, rest),
-        _ => scalar_front(alloc, tokens),
+    match first {
+        Token::OpenMap => flow_map(alloc, depth, rest),
+        Token::OpenSeq => flow_seq(alloc, depth, rest),
+        Token::Scalar(text) => scalar_found(alloc, &text, rest),
+        _ => Ok(None),
     }
 }
 
 // The scalar at the front.
-fn scalar_front<'a>(alloc: Global, tokens: &'a [Token]) -> Result<Option<Found<'a, Node>>, Memory>
-    ensures { IfOk result (λ found. found ≡ scalar_front tokens.now) }
+fn scalar_first<'a>(
+    alloc: Global,
+    first: Token<'a>,
+    rest: Tokens<'a>,
+) -> Result<Option<Found<'a, Node<'a>>>, Memory>
+    ensures { IfOk result (λ found. found ≡ scalar_front (first.entry ∷ rest.entry)) }
 {
-    match tokens {
-        [Token::Scalar(text), rest @ ..] => {
-            Ok(Some(Found::new(Node::Scalar(text.copy(alloc)?), rest)))
-        }
+    match first {
+        Token::Scalar(text) => scalar_found(alloc, &text, rest),
         _ => Ok(None),
     }
+}
+
+// The scalar of a text, which these tokens follow.
+fn scalar_found<'a>(
+    alloc: Global,
+    text: &Written<'a>,
+    rest: Tokens<'a>,
+) -> Result<Option<Found<'a, Node<'a>>>, Memory>
+    ensures { IfOk result (λ found. found ≡ Some (front (node.Scalar text.now) rest.entry)) }
+{
+    Ok(Some(Found::new(Node::Scalar(Scalar::of(alloc, text)?), rest)))
 }
 
 // The sequence whose items stand at the front, behind its bracket.
@@ -67,27 +97,29 @@ fn scalar_front<'a>(alloc: Global, tokens: &'a [Token]) -> Result<Option<Found<'
 fn flow_seq<'a>(
     alloc: Global,
     depth: u8,
-    tokens: &'a [Token],
-) -> Result<Option<Found<'a, Node>>, Memory>
-    ensures { IfOk result (λ found. found ≡ made node.Seq (listed (flow depth) (closes Square) (length tokens.now) tokens.now)) }
+    tokens: Tokens<'a>,
+) -> Result<Option<Found<'a, Node<'a>>>, Memory>
+    ensures { IfOk result (λ found. found ≡ made node.Seq (listed (flow depth) (closes Square) (length tokens.entry) tokens.entry)) }
 {
-    let mut items = Items::new(alloc);
+    let mut items = Vec::new(alloc);
     let mut rest = tokens;
-    for _turn in 0..tokens.len() {
-        if Brackets::Square.closes(rest) {
-            return Ok(Some(Found::new(Node::Seq(items), tail(rest))));
+    loop {
+        let Some((first, behind)) = rest.split() else {
+            return Ok(None);
+        };
+        if Brackets::Square.is_closed_by(&first) {
+            return Ok(Some(Found::new(Node::Seq(Items::from_vec(items)), behind)));
         }
-        let Some(found) = flow_node(alloc, depth, rest)? else {
+        let Some(found) = flow_first(alloc, depth, first, behind)? else {
             return Ok(None);
         };
         let (item, after) = found.into_parts();
-        items.push(item)?;
+        push_item(&mut items, item)?;
         let Some(more) = Brackets::Square.next_item(after) else {
             return Ok(None);
         };
         rest = more;
     }
-    Ok(None)
 }
 
 // The map whose entries stand at the front, behind its bracket.
@@ -95,27 +127,29 @@ fn flow_seq<'a>(
 fn flow_map<'a>(
     alloc: Global,
     depth: u8,
-    tokens: &'a [Token],
-) -> Result<Option<Found<'a, Node>>, Memory>
-    ensures { IfOk result (λ found. found ≡ made node.Map (listed (flow_entry (flow depth)) (closes Curly) (length tokens.now) tokens.now)) }
+    tokens: Tokens<'a>,
+) -> Result<Option<Found<'a, Node<'a>>>, Memory>
+    ensures { IfOk result (λ found. found ≡ made node.Map (listed (flow_entry (flow depth)) (closes Curly) (length tokens.entry) tokens.entry)) }
 {
-    let mut entries = Items::new(alloc);
+    let mut entries = Vec::new(alloc);
     let mut rest = tokens;
-    for _turn in 0..tokens.len() {
-        if Brackets::Curly.closes(rest) {
-            return Ok(Some(Found::new(Node::Map(entries), tail(rest))));
+    loop {
+        let Some((first, behind)) = rest.split() else {
+            return Ok(None);
+        };
+        if Brackets::Curly.is_closed_by(&first) {
+            return Ok(Some(Found::new(Node::Map(Items::from_vec(entries)), behind)));
         }
-        let Some(found) = flow_entry(alloc, depth, rest)? else {
+        let Some(found) = flow_entry(alloc, depth, first, behind)? else {
             return Ok(None);
         };
         let (entry, after) = found.into_parts();
-        entries.push(entry)?;
+        push_item(&mut entries, entry)?;
         let Some(more) = Brackets::Curly.next_item(after) else {
             return Ok(None);
         };
         rest = more;
     }
-    Ok(None)
 }
 
 // The entry of a map at the front.
@@ -123,15 +157,13 @@ fn flow_map<'a>(
 fn flow_entry<'a>(
     alloc: Global,
     depth: u8,
-    tokens: &'a [Token],
-) -> Result<Option<Found<'a, Entry>>, Memory>
-    ensures { IfOk result (λ found. found ≡ flow_entry (flow depth) tokens.now) }
+    first: Token<'a>,
+    rest: Tokens<'a>,
+) -> Result<Option<Found<'a, Entry<'a>>>, Memory>
+    ensures { IfOk result (λ found. found ≡ flow_entry (flow depth) (first.entry ∷ rest.entry)) }
 {
-    match tokens {
-        [Token::Scalar(key), rest @ ..] => match behind_key(alloc, depth, rest)? {
-            Some(found) => Ok(Some(with_key(alloc, key, found)?)),
-            None => Ok(None),
-        },
+    match first {
+        Token::Scalar(key) => with_key(alloc, &key, behind_key(alloc, depth, rest)?),
         _ => Ok(None),
     }
 }
@@ -141,73 +173,81 @@ fn flow_entry<'a>(
 fn behind_key<'a>(
     alloc: Global,
     depth: u8,
-    tokens: &'a [Token],
-) -> Result<Option<Found<'a, Node>>, Memory>
-    ensures { IfOk result (λ found. found ≡ behind_key (flow depth) tokens.now) }
+    tokens: Tokens<'a>,
+) -> Result<Option<Found<'a, Node<'a>>>, Memory>
+    ensures { IfOk result (λ found. found ≡ behind_key (flow depth) tokens.entry) }
 {
-    match tokens {
-        [Token::Colon, rest @ ..] => flow_value(alloc, depth, rest),
-        _ => Ok(if ends_entry(tokens) {
-            Some(Found::new(blank(alloc), tokens))
-        } else {
-            None
-        }),
+    match tokens.split() {
+        Some((Token::Colon, rest)) => flow_value(alloc, depth, rest),
+        Some((Token::Comma | Token::CloseMap, _)) => Ok(Some(Found::new(blank(), tokens))),
+        Some(_) => Ok(None),
+        None => Ok(None),
     }
 }
 
 // The value behind a colon, or the empty scalar where the entry ends there.
 #[cycle(flow)]
+#[tactic(auto, using(crate::proofs::Turns::flow_empty))]
 fn flow_value<'a>(
     alloc: Global,
     depth: u8,
-    tokens: &'a [Token],
-) -> Result<Option<Found<'a, Node>>, Memory>
-    ensures { IfOk result (λ found. found ≡ flow_value (flow depth) tokens.now) }
+    tokens: Tokens<'a>,
+) -> Result<Option<Found<'a, Node<'a>>>, Memory>
+    ensures { IfOk result (λ found. found ≡ flow_value (flow depth) tokens.entry) }
 {
-    if ends_entry(tokens) {
-        Ok(Some(Found::new(blank(alloc), tokens)))
-    } else {
-        flow_node(alloc, depth, tokens)
+    match tokens.split() {
+        Some((first, rest)) => if ends_entry(&first, &rest) {
+            Ok(Some(Found::new(blank(), tokens)))
+        } else {
+            flow_first(alloc, depth, first, rest)
+        },
+        None => Ok(None),
     }
 }
 
-/// A value with the text of its key.
+/// A value with the text of its key, where there is one.
 pub fn with_key<'a>(
     alloc: Global,
-    key: &Text,
-    found: Found<'a, Node>,
-) -> Result<Found<'a, Entry>, Memory>
-    ensures { IfOk result (λ it. it ≡ front (entry key.now found.entry.value) found.entry.rest) }
+    key: &Written<'a>,
+    found: Option<Found<'a, Node<'a>>>,
+) -> Result<Option<Found<'a, Entry<'a>>>, Memory>
+    ensures { IfOk result (λ it. it ≡ made (entry key.now) found.entry) }
 {
-    let (value, rest) = found.into_parts();
-    let key = key.copy(alloc)?;
-    Ok(Found::new(Entry { key, value }, rest))
+    match found {
+        Some(found) => {
+            let (value, rest) = found.into_parts();
+            let key = Scalar::of(alloc, key)?;
+            Ok(Some(Found::new(Entry { key, value }, rest)))
+        }
+        None => Ok(None),
+    }
 }
 
 /// The empty scalar.
-pub fn blank(alloc: Global) -> Node
+pub fn blank<'a>() -> Node<'a>
     ensures { result ≡ blank }
 {
-    Node::Scalar(Text::new(alloc))
+    Node::Scalar(Scalar::empty())
 }
 
 // Whether a comma or the end of the map stands first.
-fn ends_entry(tokens: &[Token]) -> bool
-    ensures { result ≡ ends_entry tokens.now }
+fn ends_entry(first: &Token, rest: &Tokens) -> bool
+    ensures { result ≡ ends_entry (first.now ∷ rest.now) }
 {
-    match tokens {
-        [Token::Comma, ..] | [Token::CloseMap, ..] => true,
+    let _ = rest;
+    match first {
+        Token::Comma | Token::CloseMap => true,
         _ => false,
     }
 }
 
 /// The tokens behind the first.
-pub fn tail(tokens: &[Token]) -> &[Token]
-    ensures { result.now ≡ tail tokens.now }
+pub fn tail<'a>(tokens: Tokens<'a>) -> Tokens<'a>
+    ensures { result ≡ tail tokens.entry }
 {
-    match tokens {
-        [] => &[],
-        [_, rest @ ..] => rest,
+    match tokens.split() {
+        None => tokens,
+        Some((_, rest)) => rest,
     }
 }
 
@@ -221,28 +261,29 @@ pub enum Brackets {
 }
 
 impl Brackets {
-    // Whether the closing bracket stands first.
-    fn closes(self, tokens: &[Token]) -> bool
-        ensures { result ≡ begins_with (closes self) tokens.now }
+    // Whether a token is the closing bracket.
+    fn is_closed_by(self, token: &Token) -> bool
+        ensures { result ≡ closes self token.now }
     {
-        match (self, tokens) {
-            (Brackets::Curly, [Token::CloseMap, ..]) => true,
-            (Brackets::Square, [Token::CloseSeq, ..]) => true,
+        match (self, token) {
+            (Brackets::Curly, Token::CloseMap) => true,
+            (Brackets::Square, Token::CloseSeq) => true,
             _ => false,
         }
     }
 
     // What follows an item and its comma, or the closing bracket and what follows it.
-    fn next_item(self, tokens: &[Token]) -> Option<&[Token]>
-        ensures { option_copied result ≡ next_item (closes self) tokens.now }
+    fn next_item<'a>(self, tokens: Tokens<'a>) -> Option<Tokens<'a>>
+        ensures { result ≡ next_item (closes self) tokens.entry }
     {
-        match tokens {
-            [Token::Comma, rest @ ..] => Some(rest),
-            _ => if self.closes(tokens) {
+        match tokens.split() {
+            Some((Token::Comma, rest)) => Some(rest),
+            Some((token, _)) => if self.is_closed_by(&token) {
                 Some(tokens)
             } else {
                 None
             },
+            None => None,
         }
     }
 }

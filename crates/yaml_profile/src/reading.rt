@@ -9,7 +9,7 @@ ghost use Rattle.yaml_profile.specs.Yaml.{read_of};
 use ifs_bytes::List;
 use std::alloc::Global;
 use yaml_nodes::{Document, YamlCause, documents};
-use yaml_tokens::{find_fault, tokens};
+use yaml_tokens::{Tokens, find_fault};
 
 /// The documents of a text in the profile, in order. What is wrong is answered with its offset in bytes: of the
 /// faults of tokens the one with the least offset, at one offset the first in the order of `YamlKind`; where there
@@ -17,12 +17,12 @@ use yaml_tokens::{find_fault, tokens};
 /// memory.
 ///
 /// Public source: YAML 1.2; docs/format/yaml.md has the profile.
-pub fn read(alloc: Global, text: &[u8]) -> Result<List<Document>, YamlCause>
+pub fn read<'a>(alloc: Global, text: &'a [u8]) -> Result<List<Document<'a>>, YamlCause>
     ensures value { UnlessMemory NoMemory result (read_of text.now) }
     ensures fault { IfSome (fault_of text.now) (λ fault. result ≡ Err (At fault.at fault.kind)) }
 {
     match find_fault(text) {
         Some(fault) => Err(YamlCause::At(fault.at, fault.kind)),
-        None => documents(alloc, &tokens(alloc, text)?),
+        None => documents(alloc, Tokens::new(text)),
     }
 }

@@ -8,3 +8,4 @@ pub mod Faults
 pub mod Brackets
 pub mod Tokens
 pub mod Places
+pub mod Parts

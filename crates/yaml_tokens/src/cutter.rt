@@ -70,6 +70,21 @@ impl<'a> Cutter<'a> {
         }
     }
 
+    /// The same place.
+    pub fn copy(&self) -> Cutter<'a>
+        ensures { result ≡ self.now }
+    {
+        Cutter {
+            line: self.line,
+            line_at: self.line_at,
+            column: self.column,
+            fresh: self.fresh,
+            after: self.after,
+            after_at: self.after_at,
+            before: self.before,
+        }
+    }
+
     /// The next piece of the text; None exactly where there is no more.
     pub fn next(&mut self) -> Option<Piece<'a>>
         ensures { Cuts result self.old self.new }

@@ -5,8 +5,9 @@
 //! No clause says when memory runs out, so a body that answers `Memory` alone meets those of each call that takes memory;
 //! the tests have calls that succeed.
 //!
-//! `find_fault` and `tokens` stand on one cutter, which goes over the bytes once. The finder takes no memory
-//! and goes first; the tokens keep nothing of the text but their scalars and tags.
+//! `find_fault` and `Tokens` stand on one cutter, and take no memory. The finder goes first, over the bytes once. `Tokens`
+//! are a place of the text: each token is cut when it is asked for, and again where it is asked for again. Its scalar is
+//! the bytes that stand in the text until its text is asked for.
 #![tactic(auto)]
 
 mod byte;
@@ -22,7 +23,7 @@ mod token;
 
 pub use fault::find_fault;
 pub use kind::{Fault, YamlKind};
-pub use token::{Token, tokens};
+pub use token::{Token, Tokens, Written};
 
 #[cfg(test)]
 mod tests;

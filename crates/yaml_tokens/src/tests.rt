@@ -182,31 +182,33 @@ fn cuts(rt: HostRuntime) -> Result<(), Fail> {
         ),
     ];
     for (text, printed) in &texts {
-        let found = show(rt.alloc(), &tokens(rt.alloc(), text)?)?;
+        let found = show(rt.alloc(), Tokens::new(text))?;
         assert_eq!(rt; found.as_bytes(), *printed);
     }
     Ok(())
 }
 
-fn show(alloc: Global, tokens: &[Token]) -> Result<Text, Memory> {
+fn show(alloc: Global, tokens: Tokens<'_>) -> Result<Text, Memory> {
     let mut out = Text::new(alloc);
-    for token in tokens {
+    let mut rest = tokens;
+    while let Some((token, after)) = rest.split() {
         if !out.as_bytes().is_empty() {
             out.append(b"; ")?;
         }
-        show_token(&mut out, token)?;
+        show_token(alloc, &mut out, &token)?;
+        rest = after;
     }
     Ok(out)
 }
 
-fn show_token(out: &mut Text, token: &Token) -> Result<(), Memory> {
+fn show_token(alloc: Global, out: &mut Text, token: &Token) -> Result<(), Memory> {
     match token {
         Token::Begin(at, tag) => {
             show_number(out, b"begin ", *at)?;
             match tag {
                 Some(tag) => {
                     out.push(b' ')?;
-                    out.append(tag.as_bytes())
+                    show_text(alloc, out, tag)
                 }
                 None => Ok(()),
             }
@@ -222,11 +224,16 @@ fn show_token(out: &mut Text, token: &Token) -> Result<(), Memory> {
         Token::CloseSeq => out.push(b']'),
         Token::Scalar(text) => {
             out.push(b'(')?;
-            out.append(text.as_bytes())?;
+            show_text(alloc, out, text)?;
             out.push(b')')
         }
         Token::Other(byte) => show_number(out, b"other ", u64::from(*byte)),
     }
+}
+
+fn show_text(alloc: Global, out: &mut Text, written: &Written) -> Result<(), Memory> {
+    let text = written.text(alloc)?;
+    out.append(text.as_bytes())
 }
 
 fn show_number(out: &mut Text, word: &[u8], number: u64) -> Result<(), Memory> {

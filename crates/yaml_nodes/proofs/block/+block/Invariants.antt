@@ -1,19 +1,25 @@
-use Rattle.std.proofs.Common.{◌≡◌, ◌+◌, ◌*◌, ◌-◌, length, true, false}
+use Rattle.std.proofs.Common.{◌≡◌, ◌+◌, ◌*◌, length, true, false}
 use Rattle.yaml_nodes.specs.Front.{behind}
 use Rattle.yaml_nodes.specs.Lists.{lined}
 use Rattle.yaml_nodes.specs.Flow.{flow}
 use Rattle.yaml_nodes.specs.Block.{map_goes_on, seq_goes_on, block_value, block_entry, block_item, block}
 use Rattle.yaml_nodes.proofs.block.+block.Given as goal
 
-abbrev pub invariant-block_map-loop-turn : goal.invariant-block_map-loop-turn
-invariant-block_map-loop-turn l =
-    lined (block_entry (block_value (flow l.depth) (block l.depth) true l.column)) (map_goes_on l.column) (length l.tokens) l.tokens
-    ≡ behind l.entries (lined (block_entry (block_value (flow l.depth) (block l.depth) true l.column)) (map_goes_on l.column) (length l.tokens - l._turn) l.rest)
+abbrev pub invariant-block_map-loop-entries : goal.invariant-block_map-loop-entries
+invariant-block_map-loop-entries l =
+    lined (block_entry (block_value (flow l.depth) (block l.depth) true l.column)) (map_goes_on l.column) (length l.fn.tokens) l.fn.tokens
+    ≡ behind l.entries.items (lined (block_entry (block_value (flow l.depth) (block l.depth) true l.column)) (map_goes_on l.column) (length l.rest) l.rest)
 
-abbrev pub invariant-block_seq-loop-turn : goal.invariant-block_seq-loop-turn
-invariant-block_seq-loop-turn l =
-    lined (block_item (block l.depth) (block_value (flow l.depth) (block l.depth) false l.column)) (seq_goes_on l.column) (length l.tokens) l.tokens
-    ≡ behind l.items (lined (block_item (block l.depth) (block_value (flow l.depth) (block l.depth) false l.column)) (seq_goes_on l.column) (length l.tokens - l._turn) l.rest)
+abbrev pub decreases-block_map-loop-entries : goal.decreases-block_map-loop-entries
+decreases-block_map-loop-entries l = length l.rest
+
+abbrev pub invariant-block_seq-loop-items : goal.invariant-block_seq-loop-items
+invariant-block_seq-loop-items l =
+    lined (block_item (block l.depth) (block_value (flow l.depth) (block l.depth) false l.column)) (seq_goes_on l.column) (length l.fn.tokens) l.fn.tokens
+    ≡ behind l.items.items (lined (block_item (block l.depth) (block_value (flow l.depth) (block l.depth) false l.column)) (seq_goes_on l.column) (length l.rest) l.rest)
+
+abbrev pub decreases-block_seq-loop-items : goal.decreases-block_seq-loop-items
+decreases-block_seq-loop-items l = length l.rest
 
 abbrev pub decreases-block_node : goal.decreases-block_node
 decreases-block_node l = 5 * l.depth
