@@ -14,7 +14,7 @@ use Rattle.yaml_tokens.specs.declared.piece.Class.TheVariants.{Begins, Stray as 
 use Rattle.yaml_tokens.specs.declared.token.Token.{Token}
 use Rattle.yaml_tokens.specs.declared.token.Token.TheVariants as token
 use Rattle.yaml_tokens.proofs.Turns.{none_first_of}
-use Rattle.yaml_nodes.specs.Documents.{begins_part}
+use Rattle.yaml_tokens.specs.Parts.{begins_part}
 use Rattle.yaml_profile.proofs.PrintedBytes.{neither, or_false}
 use Rattle.yaml_profile.proofs.OneToken.{loud, piece_at}
 use Rattle.yaml_profile.proofs.InTexts.{no_lf, calm_line, calm_byte, lf_is_good, good_step, least_none, level_passes, first_of_none}

@@ -10,7 +10,7 @@ use Rattle.yaml_tokens.specs.declared.piece.Kind.{Kind}
 use Rattle.yaml_tokens.specs.declared.piece.Kind.TheVariants as kind
 use Rattle.yaml_tokens.specs.declared.kind.YamlKind.TheVariants.{Unclosed as NotClosed}
 use Rattle.yaml_tokens.specs.declared.token.Token.{Token}
-use Rattle.yaml_nodes.specs.Documents.{begins_part}
+use Rattle.yaml_tokens.specs.Parts.{begins_part}
 use Rattle.yaml_profile.proofs.PrintedBytes.{or_false}
 use Rattle.yaml_profile.proofs.OneToken.{piece_at}
 use Rattle.yaml_profile.proofs.InTexts.{least_none, level_passes}

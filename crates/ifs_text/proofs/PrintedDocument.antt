@@ -9,7 +9,8 @@ use Rattle.yaml_tokens.specs.declared.token.Token.TheVariants as token
 use Rattle.yaml_nodes.specs.declared.node.Node.TheVariants as node
 use Rattle.yaml_nodes.specs.Nodes.{entry}
 use Rattle.yaml_nodes.specs.Block.{entries}
-use Rattle.yaml_nodes.specs.Documents.{Root, lines, begins_part, body_size, body, Whole, parts, Documents, none, one}
+use Rattle.yaml_tokens.specs.Parts.{begins_part, body_size, body}
+use Rattle.yaml_nodes.specs.Documents.{Root, lines, Whole, parts, Documents, none, one}
 use Rattle.yaml_profile.specs.Yaml.{Yaml}
 use Rattle.yaml_profile.proofs.PrintedBytes.{neither}
 use Rattle.yaml_profile.proofs.Readings.{documents_are_read}

@@ -13,7 +13,7 @@ use Rattle.yaml_tokens.specs.declared.piece.Kind.{Kind}
 use Rattle.yaml_tokens.specs.declared.piece.Kind.TheVariants as kind
 use Rattle.yaml_tokens.specs.declared.token.Token.{Token}
 use Rattle.yaml_tokens.specs.declared.token.Token.TheVariants as token
-use Rattle.yaml_nodes.specs.Documents.{begins_part}
+use Rattle.yaml_tokens.specs.Parts.{begins_part}
 use Rattle.yaml_profile.specs.Printed.{is_plain_byte, printed_scalar}
 use Rattle.yaml_profile.specs.ReadBack.{printed_piece}
 use Rattle.yaml_profile.proofs.PrintedBytes.{both, word_is_no_blank}
