@@ -1,18 +1,15 @@
 -- The tokens of a node begin no part of a text.
-use Rattle.std.proofs.Common.{◌≡◌, ℕ, zero, suc, ◌⊎◌, inl, inr, Bool, true, false, not, ◌&&◌, List, [], ◌∷◌, Option, Some, None, Result, Ok, Err, refl, ap, sym, ◌∙◌}
+use Rattle.std.proofs.Common.{◌≡◌, ℕ, zero, suc, inl, inr, Bool, true, false, not, ◌&&◌, List, [], ◌∷◌, Option, Some, Ok, refl, ap, sym, ◌∙◌}
 use Rattle.yaml_tokens.specs.declared.token.Token.{Token}
 use Rattle.yaml_tokens.specs.declared.token.Token.TheVariants as token
 use Rattle.yaml_tokens.specs.Parts.{begins_part, body}
 use Rattle.yaml_tokens.proofs.Parts.{body_more}
 use Rattle.yaml_nodes.specs.declared.node.Node.{Node}
-use Rattle.yaml_nodes.specs.declared.node.Entry.{Entry}
-use Rattle.yaml_nodes.specs.declared.cause.YamlCause.{YamlCause}
-use Rattle.yaml_nodes.specs.declared.document.Document.{Document}
 use Rattle.yaml_nodes.specs.Front.{Grammar}
 use Rattle.yaml_nodes.specs.Lists.{Listed, Lined, end, last, more, final, next}
 use Rattle.yaml_nodes.specs.Flow.{IsScalar, scalar, FlowEntry, whole, valueless, alone, InBrackets, map, seq, Flow}
 use Rattle.yaml_nodes.specs.Block.{Value, inline, below, missing, BlockEntry, pair, BlockItem, compact, other, BlockNode, entries, items, Block}
-use Rattle.yaml_nodes.specs.Documents.{max_depth, Root, nothing, inline as in_flow, lines, Part, parts, document, root_of, document_of, document_by, and_documents, documents_of}
+use Rattle.yaml_nodes.specs.Documents.{max_depth, Root, nothing, inline as in_flow, lines, parts, document, root_of, document_of, document_by, and_documents, documents_of}
 use Rattle.yaml_nodes.proofs.DocumentsAgree.{root_sound}
 
 -- no part begins among these tokens

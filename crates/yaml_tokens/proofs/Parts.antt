@@ -1,10 +1,10 @@
 -- The tokens of a place, taken one by one.
-use Rattle.std.proofs.Common.{◌≡◌, ℕ, suc, ◌+◌, Bool, true, false, cond, ◌&&◌, List, [], ◌∷◌, take, Option, Some, None, refl, ap, sym, ◌∙◌, arith}
+use Rattle.std.proofs.Common.{◌≡◌, suc, ◌+◌, Bool, true, false, cond, ◌&&◌, List, [], ◌∷◌, take, Some, None, refl, ap, sym, ◌∙◌, arith}
 use Rattle.std.specs.List.{filter_map, cons_option}
 use Rattle.yaml_tokens.specs.Pieces.{PieceRecord}
 use Rattle.yaml_tokens.specs.Places.{Place, left}
 use Rattle.yaml_tokens.specs.Tokens.{token_of}
-use Rattle.yaml_tokens.specs.Parts.{begins_part, body_size, body, up_to, parted, tokens_at, NextToken}
+use Rattle.yaml_tokens.specs.Parts.{begins_part, body_size, body, up_to, parted, tokens_at}
 use Rattle.yaml_tokens.specs.declared.token.Token.{Token}
 
 -- the body goes on with a token that begins no part
