@@ -2,6 +2,9 @@
 //!
 //! `print` appends line by line. `read` looks for the first fault of the maps of a text without taking memory, and
 //! makes the interface where there is none; whether a name stands twice is known once the symbols are in order.
+//!
+//! No clause says when memory runs out, so bodies of `print`, `TextCause::printed` and `TextCause::copy` that answer
+//! `Memory` alone meet theirs; the tests have calls that succeed.
 #![tactic(auto)]
 
 mod cause;
