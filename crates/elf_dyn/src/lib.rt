@@ -9,7 +9,7 @@
 //!
 //! A body that always answers that memory ran out meets the contract of each function that takes memory
 //! (`visible_rows`, `candidate_bytes`, `needed_of`, `needed_bytes`, `Lengths::new`, `places_by_name`, `defined_places` and
-//! those that call them): that calls succeed is tested.
+//! those that call them): that calls succeed is tested. How much room `visible_rows` takes at once is said by no clause either.
 #![tactic(auto)]
 
 mod addresses;
