@@ -3,7 +3,8 @@
 //! profile refuses.
 //!
 //! No clause says when memory runs out, so a body that answers `Memory` alone meets those of each call that takes memory;
-//! the tests have calls that succeed.
+//! the tests have calls that succeed. `Written::as_plain` tells where a scalar needs no copy; one that always answers None
+//! meets its clause too, and costs memory alone.
 //!
 //! `find_fault` and `Tokens` stand on one cutter, and take no memory. The finder goes first, over the bytes once. `Tokens`
 //! are a place of the text: each token is cut when it is asked for, and again where it is asked for again. Its scalar is
