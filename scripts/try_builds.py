@@ -19,7 +19,6 @@ and by what ninja tells; and the programs are run, against the library itself.
 A build whose tool is missing is skipped, and said so. The status is 0 where all went so, 1 where something didn't, and
 77 where the program isn't built or nothing could be tried.
 """
-import argparse
 import re
 import shlex
 import shutil
@@ -29,8 +28,8 @@ import tempfile
 from pathlib import Path
 
 import bazel_build
+from built import built_program
 
-TOP = Path(__file__).resolve().parent.parent
 CLIENTS = ["app1", "app2", "app3"]
 CLIENT = """#include <stdio.h>
 int first(void), second(void);
@@ -332,11 +331,8 @@ def tried(name, program):
 
 
 def main():
-    parser = argparse.ArgumentParser(description=__doc__, formatter_class=argparse.RawDescriptionHelpFormatter)
-    parser.add_argument("--program", default=str(TOP / "crates/ifs/out/ifs"), help="the built program")
-    program = Path(parser.parse_args().program).resolve()
-    if not program.is_file():
-        print("skipped: the program isn't built")
+    program = built_program(__doc__)
+    if program is None:
         return 77
     results = [tried(name, shlex.quote(str(program))) for name in BUILDS]
     counted = [wrong for wrong in results if wrong is not None]

@@ -6,14 +6,14 @@
 Each case has the words, where standard output goes, and the status and the line that have to come. Ends with 0
 where all came so, with 1 where one didn't, and with 77 where the program isn't built.
 """
-import argparse
 import os
 import subprocess
 import sys
 import tempfile
 from pathlib import Path
 
-TOP = Path(__file__).resolve().parent.parent
+from built import TOP, built_program
+
 LIBRARY = TOP / "crates/ifs/data/libfoo.so"
 TEXT = (TOP / "crates/ifs/stdout").read_bytes()
 
@@ -95,11 +95,8 @@ def cases(program, folder):
 
 
 def main():
-    parser = argparse.ArgumentParser(description=__doc__.split("\n\n")[0])
-    parser.add_argument("--program", default=str(TOP / "crates/ifs/out/ifs"), help="the built program")
-    program = Path(parser.parse_args().program).resolve()
-    if not program.is_file():
-        print("skipped: the program isn't built")
+    program = built_program(__doc__.split("\n\n")[0])
+    if program is None:
         return 77
     wrong = count = 0
     with tempfile.TemporaryDirectory() as folder:

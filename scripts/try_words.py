@@ -7,7 +7,6 @@ Each case runs in a folder of its own, with its files in it, and has a status, t
 error, and the files that have to be there afterwards. Files are made by scripts/small_elf.py or written here. The status
 is 0 where all came so, 1 where one didn't, and 77 where the program isn't built.
 """
-import argparse
 import os
 import subprocess
 import sys
@@ -15,10 +14,10 @@ import tempfile
 from pathlib import Path
 from typing import NamedTuple
 
+from built import TOP, built_program
 from small_elf import (FUNC, GLOBAL, HIDDEN, IFUNC, INTERNAL, LOCAL, NOTYPE, OBJECT, PPC, PROTECTED, TLS, WEAK, X86_64, Row,
                        library, without_sections)
 
-TOP = Path(__file__).resolve().parent.parent
 LONG_AGO = 946_684_800  # a time of the past, which a file has until it is written
 
 
@@ -393,11 +392,8 @@ def shown(value):
 
 
 def main():
-    parser = argparse.ArgumentParser(description=__doc__.split("\n\n")[0])
-    parser.add_argument("--program", default=str(TOP / "crates/ifs/out/ifs"), help="the built program")
-    program = Path(parser.parse_args().program).resolve()
-    if not program.is_file():
-        print("skipped: the program isn't built")
+    program = built_program(__doc__.split("\n\n")[0])
+    if program is None:
         return 77
     runner = Runner(program)
     for cases in (interfaces, merged, adjusted, targets, causes, outputs):
