@@ -1,7 +1,7 @@
 #!/usr/bin/env python3
 """Times builds by ninja after a change of code alone: 40 clients of one library of 500 functions.
 
-    bench/builds.py [--program PATH] [--peer PATH] [--readme]
+    bench/builds.py [--program PATH] [--peer PATH] [--fill]
 
 Three builds are timed in turns, and the best counts: the clients are linked against the stub that `ifs stub` writes,
 against the one that llvm-ifs writes, and against the library itself. The first two link no client then, and the last all
@@ -148,7 +148,7 @@ def main():
     parser = argparse.ArgumentParser(description=__doc__, formatter_class=argparse.RawDescriptionHelpFormatter)
     parser.add_argument("--program", default=str(TOP / "crates/ifs/out/ifs"), help="the built program")
     parser.add_argument("--peer", default=find_peer(), help="the llvm-ifs that is compared with")
-    parser.add_argument("--readme", action="store_true", help="put the table into README.md")
+    parser.add_argument("--fill", action="store_true", help="put the table into docs/SPEED.md")
     args = parser.parse_args()
     program = Path(args.program).resolve()
     if not program.is_file() or not all(shutil.which(tool) for tool in ("gcc", "ninja")):
@@ -160,8 +160,8 @@ def main():
         ready, compiled = (measured(Path(folder) / f"build{way}", stubs, way, libraries) for way in (False, True))
     text = f"{table(ready, compiled)}\n\n{machine(args.peer, load)}"
     print(text)
-    if args.readme:
-        fill(TOP / "README.md", text, MARKS)
+    if args.fill:
+        fill(TOP / "docs/SPEED.md", text, MARKS)
     if not args.peer:
         return 0
     ratio = ready[0] / ready[1]

@@ -256,19 +256,19 @@ def machine(peer, load):
             f"{memory:.0f} GiB of memory, {system}, {beside}.{busy}")
 
 
-def fill(readme, text, marks=MARKS):
+def fill(page_at, text, marks=MARKS):
     """Puts the text between the marks."""
-    page = readme.read_text(encoding="utf-8")
+    page = page_at.read_text(encoding="utf-8")
     before, rest = page.split(marks[0])
     after = rest.split(marks[1])[1]
-    readme.write_text(f"{before}{marks[0]}\n{text}\n{marks[1]}{after}", encoding="utf-8")
+    page_at.write_text(f"{before}{marks[0]}\n{text}\n{marks[1]}{after}", encoding="utf-8")
 
 
 def words():
     parser = argparse.ArgumentParser(description=__doc__.split("\n\n")[0])
     parser.add_argument("--program", default=str(TOP / "crates/ifs/out/ifs"), help="the built program")
     parser.add_argument("--most", type=int, default=max(SIZES), help="leave out libraries of more symbols")
-    parser.add_argument("--readme", action="store_true", help="put the table into README.md")
+    parser.add_argument("--fill", action="store_true", help="put the table into docs/SPEED.md")
     parser.add_argument("--make", nargs=2, metavar=("COUNT", "PATH"), help="only write a library of COUNT symbols")
     return parser.parse_args()
 
@@ -287,8 +287,8 @@ def main():
     for row in rows:
         beside = f", llvm-ifs {row.peer.seconds * 1000:.1f} ms and {row.peer.mib:.0f} MiB" if row.peer else ""
         print(f"{row.symbols:,}: {row.own.seconds * 1000:.1f} ms and {row.own.mib:.0f} MiB{beside}")
-    if args.readme:
-        fill(TOP / "README.md", text)
+    if args.fill:
+        fill(TOP / "docs/SPEED.md", text)
     results = list(bounds(rows))
     for told, holds in results:
         print(f"{'within' if holds else 'PASSED'}  {told}")

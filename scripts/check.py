@@ -16,7 +16,7 @@ OWN = Path(__file__).resolve()
 TEXTS = {".md", ".rt", ".antt", ".edit", ".py", ".sh", ".1", ".txt", ""}
 # The repository stands alone: no paper of the task is cited by a page, a letter or a number.
 CITATION = re.compile(r"[Dd]ocument 0[1-4]\b|\b0[1-4] [A-L]\b|shared/(?:spec|design)|\b[Dd]emand \d|\brequest R\d")
-PAPERS = ["README.md", *(f"docs/{name}" for name in ("ARCHITECTURE.md", "DECISIONS.md", "coming-from-llvm-ifs.md"))]
+PAPERS = ["README.md", *sorted(f"docs/{path.name}" for path in (TOP / "docs").glob("*.md"))]
 
 CAUSES = {"ifs_words/specs/Printed.antt": "docs/format/words.md", "ifs_edit/specs/Printed.antt": "docs/format/edits.md",
           "ifs_stub/specs/Printed.antt": "docs/format/stub-file.md", "elf_file/specs/Printed.antt": "docs/format/elf-library.md",
@@ -56,7 +56,7 @@ def citations():
 
 
 def named_crates():
-    for paper in ("README.md", "docs/ARCHITECTURE.md"):
+    for paper in ("docs/PROVED.md", "docs/ARCHITECTURE.md"):
         for name in crates():
             if not re.search(rf"\b{name}\b", text_of(paper)):
                 yield f"{paper} says nothing of the crate {name}"
@@ -132,13 +132,15 @@ def told_causes():
 
 
 def readme():
-    page = text_of("README.md")
-    if text_of("crates/ifs/stdout") not in page:
+    if text_of("crates/ifs/stdout") not in text_of("README.md"):
         yield "README.md doesn't show what the program prints of crates/ifs/data/libfoo.so"
+    if 150 < len(text_of("README.md").splitlines()):
+        yield "README.md has more than 150 lines"
+    page = text_of("docs/SPEED.md")
     for mark in ("<!-- bench/stub.py fills this -->", "<!-- up to here -->",
                  "<!-- bench/builds.py fills this -->", "<!-- bench/builds.py ends here -->"):
         if page.count(mark) != 1:
-            yield f"README.md has not just one {mark}"
+            yield f"docs/SPEED.md has not just one {mark}"
 
 
 def manual():
