@@ -16,6 +16,3 @@ mod stub;
 mod top;
 
 pub use top::run;
-
-#[cfg(test)]
-mod tests;
