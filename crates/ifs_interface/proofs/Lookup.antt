@@ -1,19 +1,19 @@
 -- The symbol of a name, among symbols that stand in byte order of distinct names.
-use Rattle.std.proofs.Common.{◌≡◌, ℕ, zero, suc, ◌+◌, ◌<◌, Bool, true, false, not, ◌||◌, cond, List, [], ◌∷◌, length, map, get_or, Some, None, Err, refl, sym, ap, ◌∙◌, subst, inl, inr, arith}
+use Rattle.std.proofs.Common.{◌≡◌, ℕ, zero, suc, ◌+◌, ◌<◌, Bool, true, false, not, ◌||◌, cond, List, [], ◌∷◌, length, map, get_or, Option, Some, None, Err, refl, sym, ap, ◌∙◌, subst, inl, inr, arith}
 use Rattle.std.specs.declared.cmp.Ordering.{Ordering}
 use Rattle.std.specs.declared.cmp.Ordering.TheVariants.{Less, Equal, Greater}
 use Rattle.std.specs.Ordering.{nat_cmp, is_eq}
 use Rattle.std.specs.Cmp.Lexicographic.{slice_cmp, nat_list_cmp_total, texts_ties}
 use Rattle.std.specs.List.{All, find, filter_map, list_all, cons_option}
 use Rattle.std.specs.List.Sorted.{IsSortedBy, IsBinarySearchResult}
-use Rattle.std.specs.Option.{option_and_then}
-use Rattle.std.proofs.lemmas.Bool.{false≢true, false_from_ne_true, and_parts, cases_lt}
+use Rattle.std.specs.Option.{option_map}
+use Rattle.std.proofs.lemmas.Bool.{false≢true, false_from_ne_true, and_parts, and_from, cases_lt}
 use Rattle.std.proofs.lemmas.List.Elements.{All-tail}
 use Rattle.std.proofs.lemmas.List.Sorted.{searchable_from_sorted}
 use Rattle.ifs_interface.specs.declared.symbol.Symbol.{Symbol}
 use Rattle.ifs_interface.specs.Triple.{same_name}
 use Rattle.ifs_interface.specs.Interface.{comes_before, ascends, names_of}
-use Rattle.ifs_interface.specs.Facts.{symbol_in, strength_at, together, wanted_among, wanted_place, wanted_of_symbol, wanted_by_symbols}
+use Rattle.ifs_interface.specs.Facts.{symbol_in, strength_at, together, wanted_among, wanted_place}
 use Rattle.ifs_interface.proofs.Names.{names_order, same_name-is, same_name-itself, before_differs}
 
 abbrev pub has_name : List ℕ → Symbol → Bool
@@ -95,37 +95,92 @@ no_strength name s differs = by s.undefined
     by true = ap (λ t. cond t (Some (not s.weak)) None) differs
     by false = refl
 
+later_differs : (n name : List ℕ) (s : Symbol) → same_name n name ≡ true → comes_before n s.name ≡ true → same_name s.name name ≡ false
+later_differs n name s same before =
+    let lt : comes_before name s.name ≡ true = subst (λ k. comes_before k s.name ≡ true) (same_name-is n name same) before in
+    false_from_ne_true (same_name s.name name) (λ e. false≢true (sym (before_differs name s.name lt) ∙ subst (λ k. same_name name k ≡ true) (sym (same_name-is s.name name e)) (same_name-itself name)))
+
 none_strong : (n name : List ℕ) (symbols : List Symbol) → same_name n name ≡ true → list_all (comes_before n) (names_of symbols) ≡ true → strengths name symbols ≡ []
 unfolding strengths
 none_strong n name [] same all = refl
 none_strong n name (s ∷ ss) same all =
     let parts = and_parts (comes_before n s.name) (list_all (comes_before n) (names_of ss)) all in
-    let lt : comes_before name s.name ≡ true = subst (λ k. comes_before k s.name ≡ true) (same_name-is n name same) parts.0 in
-    let differs : same_name s.name name ≡ false = false_from_ne_true (same_name s.name name) (λ e. false≢true (sym (before_differs name s.name lt) ∙ subst (λ k. same_name name k ≡ true) (sym (same_name-is s.name name e)) (same_name-itself name))) in
-    ap (λ o. cons_option o (strengths name ss)) (no_strength name s differs) ∙ none_strong n name ss same parts.1
+    ap (λ o. cons_option o (strengths name ss)) (no_strength name s (later_differs n name s same parts.0)) ∙ none_strong n name ss same parts.1
 
-only_one : (name : List ℕ) (s : Symbol) → same_name s.name name ≡ true → together (cons_option (strength_at name (wanted_place s)) []) ≡ wanted_of_symbol s
-only_one name s same = by s.undefined
+abbrev looked_up : List ℕ → List (List ℕ × Bool) → Option Bool
+looked_up name wanted = option_map (λ w. w.1) (find (λ w. same_name w.0 name) wanted)
+
+-- of names behind it none is wanted
+none_wanted : (n name : List ℕ) (symbols : List Symbol) → same_name n name ≡ true → list_all (comes_before n) (names_of symbols) ≡ true → looked_up name (filter_map wanted_place symbols) ≡ None
+none_wanted n name [] same all = refl
+none_wanted n name (s ∷ ss) same all =
+    let parts = and_parts (comes_before n s.name) (list_all (comes_before n) (names_of ss)) all in
+    by s.undefined (later_differs n name s same parts.0) (none_wanted n name ss same parts.1)
+  where
+    by : (u : Bool) → same_name s.name name ≡ false → looked_up name (filter_map wanted_place ss) ≡ None → looked_up name (cons_option (cond u (Some (s.name, not s.weak)) None) (filter_map wanted_place ss)) ≡ None
+    by true differs rest = ap (λ t. option_map (λ w. w.1) (cond t (Some (s.name, not s.weak)) (find (λ w. same_name w.0 name) (filter_map wanted_place ss)))) differs ∙ rest
+    by false differs rest = rest
+
+only_one : (name : List ℕ) (s : Symbol) (behind : List (List ℕ × Bool)) → same_name s.name name ≡ true → looked_up name behind ≡ None → together (cons_option (strength_at name (wanted_place s)) []) ≡ looked_up name (cons_option (wanted_place s) behind)
+only_one name s behind same none = by s.undefined
   where
     or_false : (b : Bool) → (b || false) ≡ b
     or_false true = refl
     or_false false = refl
 
-    by : (u : Bool) → together (cons_option (strength_at name (cond u (Some (s.name, not s.weak)) None)) []) ≡ cond u (Some (not s.weak)) None
-    by true = ap (λ t. together (cons_option (cond t (Some (not s.weak)) None) [])) same ∙ ap Some (or_false (not s.weak))
+    by : (u : Bool) → together (cons_option (strength_at name (cond u (Some (s.name, not s.weak)) None)) []) ≡ looked_up name (cons_option (cond u (Some (s.name, not s.weak)) None) behind)
+    by true =
+        ap (λ t. together (cons_option (cond t (Some (not s.weak)) None) [])) same
+        ∙ ap (λ b. Some b) (or_false (not s.weak))
+        ∙ sym (ap (λ t. option_map (λ w. w.1) (cond t (Some (s.name, not s.weak)) (find (λ w. same_name w.0 name) behind))) same)
+    by false = sym none
+
+past_one : (name : List ℕ) (s : Symbol) (behind : List (List ℕ × Bool)) → same_name s.name name ≡ false → looked_up name (cons_option (wanted_place s) behind) ≡ looked_up name behind
+past_one name s behind differs = by s.undefined
+  where
+    by : (u : Bool) → looked_up name (cons_option (cond u (Some (s.name, not s.weak)) None) behind) ≡ looked_up name behind
+    by true = ap (λ t. option_map (λ w. w.1) (cond t (Some (s.name, not s.weak)) (find (λ w. same_name w.0 name) behind))) differs
     by false = refl
 
-wanted_is : (name : List ℕ) (symbols : List Symbol) → ascends (names_of symbols) ≡ true → together (strengths name symbols) ≡ option_and_then wanted_of_symbol (symbol_in symbols name)
+wanted_is : (name : List ℕ) (symbols : List Symbol) → ascends (names_of symbols) ≡ true → together (strengths name symbols) ≡ looked_up name (filter_map wanted_place symbols)
 unfolding strengths
 wanted_is name [] up = refl
 wanted_is name (s ∷ ss) up =
     let parts = and_parts (list_all (comes_before s.name) (names_of ss)) (ascends (names_of ss)) up in
     by (same_name s.name name) refl parts.0 (wanted_is name ss parts.1)
   where
-    by : (t : Bool) → same_name s.name name ≡ t → list_all (comes_before s.name) (names_of ss) ≡ true → together (strengths name ss) ≡ option_and_then wanted_of_symbol (symbol_in ss name) → together (cons_option (strength_at name (wanted_place s)) (strengths name ss)) ≡ option_and_then wanted_of_symbol (cond t (Some s) (symbol_in ss name))
-    by true e later rest = ap (λ bs. together (cons_option (strength_at name (wanted_place s)) bs)) (none_strong s.name name ss e later) ∙ only_one name s e
-    by false e later rest = ap (λ o. together (cons_option o (strengths name ss))) (no_strength name s e) ∙ rest
+    by : (t : Bool) → same_name s.name name ≡ t → list_all (comes_before s.name) (names_of ss) ≡ true → together (strengths name ss) ≡ looked_up name (filter_map wanted_place ss) → together (cons_option (strength_at name (wanted_place s)) (strengths name ss)) ≡ looked_up name (cons_option (wanted_place s) (filter_map wanted_place ss))
+    by true e later rest =
+        ap (λ bs. together (cons_option (strength_at name (wanted_place s)) bs)) (none_strong s.name name ss e later)
+        ∙ only_one name s (filter_map wanted_place ss) e (none_wanted s.name name ss e later)
+    by false e later rest =
+        ap (λ o. together (cons_option o (strengths name ss))) (no_strength name s e) ∙ rest ∙ sym (past_one name s (filter_map wanted_place ss) e)
 
-pub wanted_are : (symbols : List Symbol) (name : List ℕ) → ascends (names_of symbols) ≡ true → wanted_among (map wanted_place symbols) name ≡ wanted_by_symbols symbols name
-unfolding wanted_among wanted_by_symbols strengths
+pub wanted_are : (symbols : List Symbol) (name : List ℕ) → ascends (names_of symbols) ≡ true → wanted_among (map wanted_place symbols) name ≡ looked_up name (filter_map wanted_place symbols)
+unfolding wanted_among strengths
 wanted_are symbols name up = wanted_is name symbols up
+
+-- ---- their order
+
+all_wanted : (p : List ℕ → Bool) (symbols : List Symbol) → list_all p (names_of symbols) ≡ true → list_all p (map (λ w. w.0) (filter_map wanted_place symbols)) ≡ true
+all_wanted p [] h = refl
+all_wanted p (s ∷ ss) h =
+    let parts = and_parts (p s.name) (list_all p (names_of ss)) h in
+    by s.undefined parts.0 (all_wanted p ss parts.1)
+  where
+    by : (u : Bool) → p s.name ≡ true → list_all p (map (λ w. w.0) (filter_map wanted_place ss)) ≡ true → list_all p (map (λ w. w.0) (cons_option (cond u (Some (s.name, not s.weak)) None) (filter_map wanted_place ss))) ≡ true
+    by true first rest = and_from (p s.name) (list_all p (map (λ w. w.0) (filter_map wanted_place ss))) first rest
+    by false first rest = rest
+
+pub wanted_ascend : (symbols : List Symbol) → ascends (names_of symbols) ≡ true → ascends (map (λ w. w.0) (filter_map wanted_place symbols)) ≡ true
+wanted_ascend [] up = refl
+wanted_ascend (s ∷ ss) up =
+    let parts = and_parts (list_all (comes_before s.name) (names_of ss)) (ascends (names_of ss)) up in
+    by s.undefined (all_wanted (comes_before s.name) ss parts.0) (wanted_ascend ss parts.1)
+  where
+    names : List (List ℕ)
+    names = map (λ w. w.0) (filter_map wanted_place ss)
+
+    by : (u : Bool) → list_all (comes_before s.name) names ≡ true → ascends names ≡ true → ascends (map (λ w. w.0) (cons_option (cond u (Some (s.name, not s.weak)) None) (filter_map wanted_place ss))) ≡ true
+    by true later rest = and_from (list_all (comes_before s.name) names) (ascends names) later rest
+    by false later rest = rest

@@ -1,8 +1,9 @@
 //! What a link asks of a library, however it was read.
 
-ghost use Rattle.std.specs.Prelude.{◌≡◌, ℕ, Bool, List, Option, length, option_map, slice_get};
+ghost use Rattle.std.specs.Prelude.{◌≡◌, ℕ, Bool, true, List, Option, length, option_map, slice_get};
 ghost use Rattle.std.specs.Option.{option_copied, option_flatten};
-ghost use Rattle.ifs_interface.specs.Facts.{Facts, AreWanted};
+ghost use Rattle.ifs_interface.specs.Facts.{Facts, AreWanted, wanted_names};
+ghost use Rattle.ifs_interface.specs.Interface.{ascends};
 ghost use Rattle.ifs_interface.specs.Wanted.{seen};
 
 use crate::fact::Fact;
@@ -43,10 +44,11 @@ pub trait SharedLib {
         ensures { result ≡ (facts self.now).fact_of name.now };
 
     /// How many places `wanted` has. Each wanted name stands at one of them at least, and strongly at
-    /// one exactly where it is wanted strongly.
+    /// one exactly where it is wanted strongly. The facts have these names in byte order, each once.
     fn wanted_len(&self) -> usize
         ensures places { result ≡ length (wanted_list self.now) }
-        ensures wanted { AreWanted (facts self.now) (wanted_list self.now) };
+        ensures wanted { AreWanted (facts self.now) (wanted_list self.now) }
+        ensures order { ascends (wanted_names (facts self.now)) ≡ true };
 
     /// The wanted name at place `i`; a place may have none, and from `wanted_len` on none has.
     fn wanted(&self, i: usize) -> Option<Wanted<'_>>

@@ -1,10 +1,9 @@
 -- An interface that was extracted has the facts of its library.
-use Rattle.std.proofs.Common.{◌≡◌, ℕ, ◌==◌, Bool, true, false, not, cond, ◌&&◌, ◌||◌, List, [], ◌∷◌, map, find, Option, Some, None, Ok, refl, sym, ap, ◌∙◌}
+use Rattle.std.proofs.Common.{◌≡◌, ℕ, ◌==◌, Bool, true, false, cond, ◌||◌, List, [], ◌∷◌, map, find, Option, Some, None, Ok, refl, sym, ap, ◌∙◌}
 use Rattle.std.specs.Prelude.{option_map, option_and_then, if◌then◌else◌}
-use Rattle.std.specs.List.{list_all, list_any}
 use Rattle.std.proofs.lemmas.Bool.{eqb-true}
-use Rattle.ifs_interface.specs.Extracted.{interface_of, described, symbol_named, visible_names, in_order, rows_named, is_defined, is_weak, kind_of}
-use Rattle.ifs_interface.specs.Facts.{fact_of_type, fact_of_kind, fact_of_symbol, wanted_of_symbol, is_strong, wanted_by, symbol_in, defined_in, wanted_in, defined_by, wanted_by_symbols, facts_of_library, facts_of_interface}
+use Rattle.ifs_interface.specs.Extracted.{interface_of, described, symbol_named, visible_names, in_order, rows_named, is_defined, kind_of}
+use Rattle.ifs_interface.specs.Facts.{fact_of_type, fact_of_kind, fact_of_symbol, symbol_in, defined_in, defined_by, facts_of_library, facts_of_interface}
 use Rattle.ifs_interface.specs.Library.{LibraryRecord}
 use Rattle.ifs_interface.specs.Triple.{same_name}
 use Rattle.ifs_interface.specs.declared.fact.Fact.TheVariants as fact
@@ -13,6 +12,7 @@ use Rattle.ifs_interface.specs.declared.symbol.Kind.TheVariants.{NoType, Func, O
 use Rattle.ifs_interface.specs.declared.symbol.Symbol.{Symbol}
 use Rattle.ifs_interface.proofs.Lists.{has_some, any_map_of, any_by_filter}
 use Rattle.ifs_interface.proofs.Names.{same_name-is}
+use Rattle.ifs_interface.proofs.WantedRows.{wanted_extracted}
 use Rattle.elf_dyn.specs.Library.{library_of}
 use Rattle.elf_dyn.specs.Rank.{are_bytes}
 use Rattle.ifs_stub.specs.Laws.{form_of_library, facts_in}
@@ -88,39 +88,21 @@ fact_of_seen : (name : List ℕ) (rows : List DynRow) → option_and_then fact_o
 fact_of_seen name [] = refl
 fact_of_seen name (row ∷ rows) = fact_of_described name (find is_defined (row ∷ rows)) row rows
 
-some_is_strong : (rows : List DynRow) → not (list_all is_weak rows) ≡ list_any is_strong rows
-some_is_strong [] = refl
-some_is_strong (row ∷ rows) = by (is_weak row) (some_is_strong rows)
-  where
-    by : (b : Bool) → not (list_all is_weak rows) ≡ list_any is_strong rows → not (b && list_all is_weak rows) ≡ (not b || list_any is_strong rows)
-    by true rest = rest
-    by false rest = refl
-
-wanted_of_described : (name : List ℕ) (o : Option DynRow) (row : DynRow) (rows : List DynRow) → wanted_of_symbol (described name o (row ∷ rows)) ≡ wanted_by o (row ∷ rows)
-wanted_of_described name None row rows = ap (λ b. Some b) (some_is_strong (row ∷ rows))
-wanted_of_described name (Some r) row rows = refl
-
-wanted_of_seen : (name : List ℕ) (rows : List DynRow) → option_and_then wanted_of_symbol (seen name rows) ≡ wanted_by (find is_defined rows) rows
-wanted_of_seen name [] = refl
-wanted_of_seen name (row ∷ rows) = wanted_of_described name (find is_defined (row ∷ rows)) row rows
-
 same_defined : (rows : List DynRow) (name : List ℕ) → defined_by (map (symbol_named rows) (visible_names rows)) name ≡ defined_in rows name
 unfolding defined_by defined_in
 same_defined rows name = ap (option_and_then fact_of_symbol) (symbol_of_name rows name) ∙ fact_of_seen name (rows_named name rows)
 
-same_wanted : (rows : List DynRow) (name : List ℕ) → wanted_by_symbols (map (symbol_named rows) (visible_names rows)) name ≡ wanted_in rows name
-unfolding wanted_by_symbols wanted_in
-same_wanted rows name = ap (option_and_then wanted_of_symbol) (symbol_of_name rows name) ∙ wanted_of_seen name (rows_named name rows)
-
 pub extracted_keep_facts : (library : LibraryRecord) → facts_of_interface (interface_of library) ≡ facts_of_library library
 unfolding interface_of
-extracted_keep_facts library k = record {
-  machine = record { machine = Some library.machine; order = Some library.order; width = Some library.width };
-  soname = library.soname;
-  needed = library.needed;
-  fact_of = λ name. same_defined library.rows name k;
-  wanted_of = λ name. same_wanted library.rows name k;
-}
+extracted_keep_facts library =
+    let wanted = wanted_extracted library in
+    λ k. record {
+      machine = record { machine = Some library.machine; order = Some library.order; width = Some library.width };
+      soname = library.soname;
+      needed = library.needed;
+      wanted = wanted k;
+      fact_of = λ name. same_defined library.rows name k;
+    }
 
 pub stubs_of_libraries_have_their_facts : (file stub : List ℕ) (library : LibraryRecord) → are_bytes file ≡ true → library_of file ≡ Ok library → stub_of (interface_of library) ≡ Ok stub → facts_in stub ≡ Ok (facts_of_library library)
 stubs_of_libraries_have_their_facts file stub library bytes is stubbed =
