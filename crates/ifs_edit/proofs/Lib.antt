@@ -1,5 +1,7 @@
 pub mod Matching
 pub mod Reading
+pub mod SetsAgree
+pub mod PatternsAgree
 pub mod Kept
 pub mod Whole
 pub mod Pointed

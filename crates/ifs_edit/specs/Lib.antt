@@ -1,7 +1,9 @@
-pub mod Glob
 pub mod Pattern
+pub mod Glob
+pub mod Elements
 pub mod Runs
 pub mod Parsed
+pub mod Read
 pub mod Printed
 pub mod Adjusted
 pub mod Stripped

@@ -3,7 +3,7 @@ use Rattle.std.specs.Prelude.{ℕ, List, Result, Ok, Err}
 use Rattle.ifs_edit.specs.declared.element.Element.{Element}
 use Rattle.ifs_edit.specs.declared.cause.GlobCause.{GlobCause}
 use Rattle.ifs_edit.specs.declared.cause.GlobCause.TheVariants.{BadGlob}
-use Rattle.ifs_edit.specs.Pattern.{elements_of}
+use Rattle.ifs_edit.specs.Elements.{elements_of}
 
 abbrev pub caused : Result (List Element) ℕ → Result (List Element) GlobCause
 caused (Ok elements) = Ok elements

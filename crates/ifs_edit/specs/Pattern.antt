@@ -1,98 +1,91 @@
--- How a pattern is read: its elements one by one, or the offset of the first that is broken.
-use Rattle.std.specs.Prelude.{ℕ, zero, suc, ◌+◌, Bool, not, ◌&&◌, ◌||◌, ◌==◌, nat_le, List, [], ◌∷◌, Option, Some, None, option_map, Result, Ok, Err, if◌then◌else◌}
+-- Patterns of names: which names a pattern matches, an element at a time, and where its first broken element
+-- begins.
+use Rattle.std.specs.Prelude.{◌≡◌, ℕ, ◌+◌, ◌≤◌, Bool, true, false, not, ◌&&◌, ◌||◌, ◌==◌, nat_le, List, [], ◌∷◌, ◌++◌, length}
 use Rattle.std.specs.Str.{byte}
-use Rattle.ifs_edit.specs.declared.element.Span.{Span}
-use Rattle.ifs_edit.specs.declared.element.Element.{Element}
-use Rattle.ifs_edit.specs.declared.element.Element.TheVariants.{Any, One, Byte, In, NotIn}
-use Rattle.ifs_edit.specs.declared.set.Set.{Set}
-use Rattle.ifs_edit.specs.declared.set.Item.{Item}
-use Rattle.ifs_edit.specs.declared.front.Front.{Front}
+
+-- the bytes that a set, or an element of one byte, stands for
+abbrev pub Bytes : Type 0
+Bytes = ℕ → Bool
 
 -- ---- a set, behind its `[` and the `!` or `^`
 
-abbrev pub closes : ℕ → Bool
+abbrev pub within : ℕ → ℕ → Bytes
+within first last b = nat_le first b && nat_le b last
+
+abbrev pub closes : Bytes
 closes b = b == byte "]"
 
-abbrev pub single : ℕ → Item
-single b = record { span = record { first = b; last = b }; more = 0 }
+-- with `-` and a byte other than `]` behind it a byte is the first of a range
+abbrev pub ranges : List ℕ → Bool
+ranges [] = false
+ranges (d ∷ []) = false
+ranges (d ∷ c ∷ rest) = d == byte "-" && not (closes c)
 
--- a range has two bytes behind its first, and doesn't fall
-abbrev pub range : ℕ → ℕ → Option Item
-range first last = if nat_le first last then Some (record { span = record { first = first; last = last }; more = 2 }) else None
+-- bytes and ranges that don't fall, up to the first `]`
+pub data Items : List ℕ → Bytes → List ℕ → Type 0 where
+  closed : {rest : List ℕ} → Items (byte "]" ∷ rest) (λ b. false) rest
+  single : {a : ℕ} {ts rest : List ℕ} {has : Bytes} → closes a ≡ false → ranges ts ≡ false
+      → Items ts has rest → Items (a ∷ ts) (λ b. within a a b || has b) rest
+  range : {a c : ℕ} {ts rest : List ℕ} {has : Bytes} → closes a ≡ false → closes c ≡ false → nat_le a c ≡ true
+      → Items ts has rest → Items (a ∷ byte "-" ∷ c ∷ ts) (λ b. within a c b || has b) rest
 
--- the item that begins with a byte, before others: with `-` and a byte other than `]` behind it it is a range
-abbrev pub item_at : ℕ → List ℕ → Option Item
-item_at b [] = Some (single b)
-item_at b (d ∷ []) = Some (single b)
-item_at b (d ∷ c ∷ rest) = if d == byte "-" && not (closes c) then range b c else Some (single b)
-
-abbrev pub longer : Set → Set
-longer set = record { spans = set.spans; size = set.size + 1 }
-
-abbrev pub with_span : Span → Set → Set
-with_span span set = record { spans = span ∷ set.spans; size = set.size + 1 }
-
--- an item, and what the items behind it make; its further bytes are passed
-abbrev pub item_then : Option Item → (ℕ → Option Set) → Option Set
-item_then None behind = None
-item_then (Some item) behind = option_map (with_span item.span) (behind item.more)
-
--- the items up to `]`, with the number of bytes that they and it have; the first bytes, so many, are passed
-abbrev pub items_from : ℕ → List ℕ → Option Set
-items_from passed [] = None
-items_from (suc passed) (b ∷ bs) = option_map longer (items_from passed bs)
-items_from zero (b ∷ bs) =
-    if closes b then Some (record { spans = []; size = 1 })
-    else item_then (item_at b bs) (λ more. items_from more bs)
+abbrev pub begins : Bytes → List ℕ → Bool
+begins test [] = false
+begins test (b ∷ bs) = test b
 
 -- one item at least
-abbrev pub set_of : List ℕ → Option Set
-set_of [] = None
-set_of (b ∷ bs) = if closes b then None else items_from 0 (b ∷ bs)
+abbrev pub IsSet : List ℕ → Bytes → List ℕ → Type 0
+IsSet ts has rest = (begins closes ts ≡ false) × Items ts has rest
 
 -- ---- an element
 
-abbrev pub one_byte : Element → Option Front
-one_byte element = Some (record { element = element; more = 0 })
+-- a backslash
+abbrev pub escape : ℕ
+escape = 92
 
-abbrev pub escaped : List ℕ → Option Front
-escaped [] = None
-escaped (c ∷ rest) = Some (record { element = Byte c; more = 1 })
-
-abbrev pub negates : ℕ → Bool
+abbrev pub negates : Bytes
 negates b = b == byte "!" || b == byte "^"
 
-abbrev pub bracketed : List ℕ → Option Front
-bracketed [] = None
-bracketed (b ∷ bs) =
-    if negates b then option_map (λ set. record { element = NotIn set.spans; more = set.size + 1 }) (set_of bs)
-    else option_map (λ set. record { element = In set.spans; more = set.size }) (set_of (b ∷ bs))
+abbrev pub is_special : Bytes
+is_special b = b == byte "*" || (b == byte "?" || (b == escape || b == byte "["))
 
--- the element that begins with a byte, before others, and how many of these it has; None where it is broken
-abbrev pub element_at : ℕ → List ℕ → Option Front
-element_at b bs =
-    if b == byte "*" then one_byte Any
-    else (if b == byte "?" then one_byte One
-    else (if b == 92 then escaped bs
-    else (if b == byte "[" then bracketed bs
-    else one_byte (Byte b))))
+-- an element of one byte at the front, the bytes that it stands for, and what follows it
+pub data OneByte : List ℕ → Bytes → List ℕ → Type 0 where
+  any : {rest : List ℕ} → OneByte (byte "?" ∷ rest) (λ b. true) rest
+  escaped : {c : ℕ} {rest : List ℕ} → OneByte (escape ∷ c ∷ rest) (λ b. c == b) rest
+  in_set : {ts rest : List ℕ} {has : Bytes} → begins negates ts ≡ false → IsSet ts has rest
+      → OneByte (byte "[" ∷ ts) has rest
+  outside : {t : ℕ} {ts rest : List ℕ} {has : Bytes} → negates t ≡ true → IsSet ts has rest
+      → OneByte (byte "[" ∷ t ∷ ts) (λ b. not (has b)) rest
+  itself : {c : ℕ} {rest : List ℕ} → is_special c ≡ false → OneByte (c ∷ rest) (λ b. c == b) rest
 
--- ---- the pattern
+-- ---- a pattern and a name
 
-abbrev pub before_all : Element → Result (List Element) ℕ → Result (List Element) ℕ
-before_all e (Ok es) = Ok (e ∷ es)
-before_all e (Err at) = Err at
+-- a star takes any bytes, or none; each other element takes one byte; both end together
+pub data Matches : List ℕ → List ℕ → Type 0 where
+  end : Matches [] []
+  star : {pattern name : List ℕ} → (taken : List ℕ) → Matches pattern name
+      → Matches (byte "*" ∷ pattern) (taken ++ name)
+  one : {pattern rest name : List ℕ} {has : Bytes} {b : ℕ} → OneByte pattern has rest → has b ≡ true
+      → Matches rest name → Matches pattern (b ∷ name)
 
-abbrev pub element_then : ℕ → Option Front → (ℕ → Result (List Element) ℕ) → Result (List Element) ℕ
-element_then at None behind = Err at
-element_then at (Some front) behind = before_all front.element (behind front.more)
+-- ---- the first broken element
 
--- the elements from an offset on; the first bytes, so many, are passed
-abbrev pub elements_from : ℕ → ℕ → List ℕ → Result (List Element) ℕ
-elements_from at passed [] = Ok []
-elements_from at (suc passed) (b ∷ bs) = elements_from (at + 1) passed bs
-elements_from at zero (b ∷ bs) = element_then at (element_at b bs) (λ more. elements_from (at + 1) more bs)
+-- an element at the front of bytes, and what follows it
+pub data IsElement : List ℕ → List ℕ → Type 0 where
+  any_bytes : {rest : List ℕ} → IsElement (byte "*" ∷ rest) rest
+  one_byte : {bytes rest : List ℕ} {has : Bytes} → OneByte bytes has rest → IsElement bytes rest
 
--- the elements of a pattern, or the offset of the first that is broken
-abbrev pub elements_of : List ℕ → Result (List Element) ℕ
-elements_of pattern = elements_from 0 0 pattern
+-- elements at the front, and what follows them
+pub data AreElements : List ℕ → List ℕ → Type 0 where
+  none : {bytes : List ℕ} → AreElements bytes bytes
+  more : {bytes after rest : List ℕ} → IsElement bytes after → AreElements after rest → AreElements bytes rest
+
+-- no element stands at the front of bytes, though there are some
+abbrev pub IsBroken : List ℕ → Type 0
+IsBroken bytes = (1 ≤ length bytes) × ((rest : List ℕ) → IsElement bytes rest → ⊥)
+
+-- behind elements a broken one begins at this offset
+abbrev pub BrokenAt : List ℕ → ℕ → Type 0
+BrokenAt pattern at =
+    (rest : List ℕ) × AreElements pattern rest × IsBroken rest × (at + length rest ≡ length pattern)

@@ -10,7 +10,7 @@ use std::alloc::{AllocFailed, Global};
 /// Why bytes are no pattern.
 #[derive(Clone, Copy, Debug, PartialEq, Eq)]
 pub enum GlobCause {
-    /// The element that begins at this offset is broken: a `[` or a `\`.
+    /// The first broken element begins at this offset, with a `[` or a `\`.
     BadGlob(u64),
     /// Memory ran out.
     Memory,
@@ -34,15 +34,17 @@ pub enum MergeCause {
     SonameMismatch(u64),
     /// The input at this position needs other libraries than the first, or in another order.
     NeededMismatch(u64),
-    /// The symbol of this name has two types.
+    /// Inputs give the symbol of this name different types: that of the first input with the name, and that of the
+    /// first input that differs from it.
     TypeMismatch(Text, Kind, Kind),
-    /// The symbol of this name has two sizes, or one and none.
+    /// Inputs give the symbol of this name different sizes, or some a size and others none: that of the first input
+    /// with the name, and that of the first input that differs from it.
     SizeMismatch(Text, Option<u64>, Option<u64>),
-    /// The symbol of this name is weak in one input alone.
+    /// The symbol of this name is weak in some inputs with the name, and not weak in others.
     WeakMismatch(Text),
-    /// The symbol of this name is undefined in one input alone.
+    /// The symbol of this name is undefined in some inputs with the name, and defined in others.
     UndefinedMismatch(Text),
-    /// The symbol of this name has two warnings, or one and none.
+    /// Inputs give the symbol of this name different warnings, or some a warning and others none.
     WarningMismatch(Text),
     /// Memory ran out.
     Memory,

@@ -1,37 +1,28 @@
 //! The element at the front of a pattern.
 
 ghost use Rattle.std.specs.Prelude.{◌≡◌, IfOk};
-ghost use Rattle.ifs_edit.specs.Pattern.{bracketed, escaped, element_at, one_byte, negates};
+ghost use Rattle.ifs_edit.specs.Pattern.{negates};
+ghost use Rattle.ifs_edit.specs.Elements.{bracketed, escaped, element_at, one_byte};
 
 use crate::element::Element;
 use crate::set::set_of;
 use ifs_bytes::Memory;
 use std::alloc::Global;
 
-// An element, and how many bytes of the pattern it has behind its first.
-#[derive(Drop)]
-pub(crate) struct Front {
-    pub(crate) element: Element,
-    pub(crate) more: usize,
-}
-
 // An element of one byte of the pattern.
-fn one_byte(element: Element) -> Option<Front>
+fn one_byte(element: Element) -> Option<(Element, usize)>
     ensures { result ≡ one_byte element }
 {
-    Some(Front { element, more: 0 })
+    Some((element, 0))
 }
 
 // The byte behind a backslash, which stands for itself; None where there is none.
-fn escaped(rest: &[u8]) -> Option<Front>
+fn escaped(rest: &[u8]) -> Option<(Element, usize)>
     ensures { result ≡ escaped rest.now }
 {
     match rest {
         [] => None,
-        [byte, ..] => Some(Front {
-            element: Element::Byte(*byte),
-            more: 1,
-        }),
+        [byte, ..] => Some((Element::Byte(*byte), 1)),
     }
 }
 
@@ -42,8 +33,8 @@ fn negates(byte: u8) -> bool
     byte == b'!' || byte == b'^'
 }
 
-// What a bracket begins; None where it is broken.
-fn bracketed(alloc: Global, rest: &[u8]) -> Result<Option<Front>, Memory>
+// What a bracket begins, and how many bytes it has behind it; None where it is broken.
+fn bracketed(alloc: Global, rest: &[u8]) -> Result<Option<(Element, usize)>, Memory>
     ensures { IfOk result (λ front. front ≡ bracketed rest.now) }
 {
     let Some(byte) = rest.first() else {
@@ -52,24 +43,23 @@ fn bracketed(alloc: Global, rest: &[u8]) -> Result<Option<Front>, Memory>
     if negates(*byte) {
         let (_, inner) = rest.split_at(1);
         return match set_of(alloc, inner)? {
-            Some(set) => Ok(Some(Front {
-                element: Element::NotIn(set.spans),
-                more: set.size + 1,
-            })),
+            Some((spans, size)) => Ok(Some((Element::NotIn(spans), size + 1))),
             None => Ok(None),
         };
     }
     match set_of(alloc, rest)? {
-        Some(set) => Ok(Some(Front {
-            element: Element::In(set.spans),
-            more: set.size,
-        })),
+        Some((spans, size)) => Ok(Some((Element::In(spans), size))),
         None => Ok(None),
     }
 }
 
-// The element that begins with a byte, before others; None where it is broken.
-pub(crate) fn element_at(alloc: Global, byte: u8, rest: &[u8]) -> Result<Option<Front>, Memory>
+// The element that begins with a byte, before others, and how many bytes of the pattern it has behind its first; None
+// where it is broken.
+pub(crate) fn element_at(
+    alloc: Global,
+    byte: u8,
+    rest: &[u8],
+) -> Result<Option<(Element, usize)>, Memory>
     ensures { IfOk result (λ front. front ≡ element_at byte rest.now) }
 {
     match byte {

@@ -6,6 +6,7 @@ ghost use Rattle.std.specs.Option.{option_copied};
 ghost use Rattle.ifs_edit.specs.Glob.{matches, some_rest};
 ghost use Rattle.ifs_edit.specs.Runs.{run_len, fits, fits_end, behind_run, left_passes};
 ghost use Rattle.ifs_edit.specs.Parsed.{glob_of};
+ghost use Rattle.ifs_edit.specs.Read.{IsRead};
 
 use crate::cause::GlobCause;
 use crate::element::Element;
@@ -33,9 +34,18 @@ impl Model for Glob {
 }
 
 impl Glob {
-    /// The pattern that these bytes write; BadGlob exactly where an element is broken, with the offset of the
-    /// first: a `[` whose set is empty, isn't closed or has a range that falls, or a `\` at the end.
+    /// The pattern that these bytes write, which matches just the names that the bytes match by the definition
+    /// (`Matches`); BadGlob exactly where an element is broken, with the offset of the first: a `[` whose set is
+    /// empty, isn't closed or has a range that falls, or a `\` at the end.
     pub fn parse(alloc: Global, pattern: &[u8]) -> Result<Glob, GlobCause>
+        ensures value { UnlessMemory GlobCause.Memory result (glob_of pattern.now) }
+        ensures read { IsRead pattern.now result }
+    {
+        Glob::from_elements(alloc, pattern)
+    }
+
+    // The elements of a pattern one by one.
+    fn from_elements(alloc: Global, pattern: &[u8]) -> Result<Glob, GlobCause>
         ensures { UnlessMemory GlobCause.Memory result (glob_of pattern.now) }
     {
         let mut elements = Vec::new(alloc);
@@ -43,8 +53,8 @@ impl Glob {
         while let [byte, after @ ..] = rest {
             match element_at(alloc, *byte, after)? {
                 Some(front) => {
-                    elements.push(front.element)?;
-                    rest = behind(after, front.more);
+                    elements.push(front.0)?;
+                    rest = behind(after, front.1);
                 }
                 None => return Err(GlobCause::BadGlob((pattern.len() - rest.len()) as u64)),
             }

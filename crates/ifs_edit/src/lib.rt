@@ -22,7 +22,7 @@ pub use adjusted::{AdjustOptions, adjust};
 pub use cause::{AdjustCause, GlobCause, MergeCause};
 pub use element::{Element, Span};
 pub use glob::Glob;
-pub use laws::{merges_alone, merges_in_any_order};
+pub use laws::{merges_alone, merges_in_any_order, patterns_are_read};
 pub use merged::merge;
 pub use strip::{Strip, strip_target};
 

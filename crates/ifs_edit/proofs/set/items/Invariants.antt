@@ -1,5 +1,5 @@
 use Rattle.std.proofs.Common.{◌≡◌, ◌-◌, ◌≤◌, length}
-use Rattle.ifs_edit.specs.Pattern.{items_from}
+use Rattle.ifs_edit.specs.Elements.{items_from}
 use Rattle.ifs_edit.proofs.Reading.{grown}
 use Rattle.ifs_edit.proofs.set.items.Given as goal
 

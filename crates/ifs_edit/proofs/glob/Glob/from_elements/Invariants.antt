@@ -1,7 +1,7 @@
 use Rattle.std.proofs.Common.{◌≡◌, ◌-◌, ◌≤◌, length}
-use Rattle.ifs_edit.specs.Pattern.{elements_from, elements_of}
+use Rattle.ifs_edit.specs.Elements.{elements_from, elements_of}
 use Rattle.ifs_edit.proofs.Reading.{behind_done}
-use Rattle.ifs_edit.proofs.glob.Glob.parse.Given as goal
+use Rattle.ifs_edit.proofs.glob.Glob.from_elements.Given as goal
 
 -- what was read, before what is left
 abbrev pub invariant-loop-rest : goal.invariant-loop-rest
