@@ -1,5 +1,5 @@
 -- A patched field still fits its bytes.
-use Rattle.std.proofs.Common.{◌≡◌, ℕ, ℤ, ◌+◌, ◌-◌, ◌*◌, ◌/◌, ◌^◌, ◌<◌, ◌≤◌, true, arith}
+use Rattle.std.proofs.Common.{◌≡◌, ℕ, ℤ, ◌+◌, ◌*◌, ◌/◌, ◌^◌, ◌<◌, ◌≤◌, true, arith}
 use Rattle.link_machine.specs.Patch.{with_bits, patched, modulo, are_sound, is_sound, count_of, taken}
 use Rattle.link_machine.specs.declared.rule.Bits.{Bits}
 use Rattle.link_machine.specs.declared.rule.Field.{Field}

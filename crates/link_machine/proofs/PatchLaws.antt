@@ -1,15 +1,15 @@
 -- What a patch keeps, what stands of two patches, and what is read back.
-use Rattle.std.proofs.Common.{◌≡◌, ℕ, ℤ, pos, negsuc, ◌+◌, ◌-◌, ◌*◌, ◌/◌, ◌%◌, ◌^◌, ◌<◌, ◌≤◌, Bool, true, false, refl, arith, subst, sym, ap, ◌∙◌, inl, inr}
+use Rattle.std.proofs.Common.{◌≡◌, ℕ, ℤ, ◌+◌, ◌-◌, ◌/◌, ◌^◌, ◌<◌, ◌≤◌, Bool, true, false, refl, arith, sym, ◌∙◌, inl, inr}
 use Rattle.std.specs.Int.{bit_at}
 use Rattle.std.proofs.lemmas.Bool.{cases_lt}
 use Rattle.std.proofs.lemmas.Nat.Bits.{same_from_bits}
-use Rattle.link_machine.specs.Patch.{with_bits, patched, modulo, count_of, taken}
-use Rattle.link_machine.specs.Laws.{is_in, is_replaced, KeepsOtherBits, LaterStands}
+use Rattle.link_machine.specs.Patch.{with_bits, modulo, count_of, taken}
+use Rattle.link_machine.specs.Laws.{is_in, KeepsOtherBits, LaterStands}
 use Rattle.link_machine.specs.declared.rule.Bits.{Bits}
 use Rattle.link_machine.specs.declared.rule.Field.{Field}
 use Rattle.link_machine.specs.declared.rule.Field.TheVariants.{Unchanged, One, Two}
 use Rattle.link_machine.proofs.Runs.{below_room}
-use Rattle.link_machine.proofs.PutRuns.{put, bit_put_below, bit_put_above, bit_put_inside}
+use Rattle.link_machine.proofs.PutRuns.{bit_put_below, bit_put_above, bit_put_inside}
 
 by_test : {P : Type 0} (x : Bool) → (x ≡ true → P) → (x ≡ false → P) → P
 by_test true t f = t refl

@@ -1,7 +1,7 @@
 -- Where a run of bits stands in a number, the bits of the number.
 use Rattle.std.proofs.Common.{◌≡◌, ℕ, ◌+◌, ◌-◌, ◌*◌, ◌/◌, ◌%◌, ◌^◌, ◌<◌, ◌≤◌, arith, subst, sym, ap, ◌∙◌}
 use Rattle.std.specs.Int.{bit_at}
-use Rattle.std.proofs.lemmas.Nat.{pow-add, shr_high, mod_low, mod_below, pow_pos, shr-shr, field_of}
+use Rattle.std.proofs.lemmas.Nat.{pow-add, shr_high, mod_low, shr-shr, field_of}
 use Rattle.std.proofs.Math.Pow.{mod-mod-pow}
 use Rattle.link_machine.proofs.Runs.{shifted_room, below_room}
 

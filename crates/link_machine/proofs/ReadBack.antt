@@ -1,9 +1,9 @@
 -- What is read back from a field.
-use Rattle.std.proofs.Common.{◌≡◌, ℕ, ℤ, pos, negsuc, ◌+◌, ◌-◌, ◌*◌, ◌/◌, ◌%◌, ◌^◌, ◌<◌, ◌≤◌, Bool, true, false, refl, arith, subst, sym, ap, ◌∙◌}
-use Rattle.std.proofs.lemmas.Nat.{pow-add, mod_low, mod_below, pow_pos, shr-shr, mod-pow-add, shr_split, div-add-mod', shr_below}
+use Rattle.std.proofs.Common.{◌≡◌, ℕ, ℤ, pos, negsuc, ◌+◌, ◌-◌, ◌*◌, ◌/◌, ◌%◌, ◌^◌, ◌<◌, ◌≤◌, true, arith, subst, sym, ap, ◌∙◌}
+use Rattle.std.proofs.lemmas.Nat.{pow-add, mod_low, pow_pos, shr-shr, mod-pow-add, shr_split, shr_below}
 use Rattle.std.proofs.Math.Pow.{mod-mod-pow}
-use Rattle.link_machine.specs.Patch.{with_bits, patched, modulo, count_of, taken, is_sound, are_sound}
-use Rattle.link_machine.specs.Laws.{run_read, field_read, lowest, top, is_joined, IsReadBack}
+use Rattle.link_machine.specs.Patch.{with_bits, modulo, count_of, taken, is_sound, are_sound}
+use Rattle.link_machine.specs.Laws.{run_read, field_read, lowest, is_joined, IsReadBack}
 use Rattle.link_machine.specs.declared.rule.Bits.{Bits}
 use Rattle.link_machine.specs.declared.rule.Field.{Field}
 use Rattle.link_machine.specs.declared.rule.Field.TheVariants.{Unchanged, One, Two}

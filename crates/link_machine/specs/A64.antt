@@ -1,6 +1,6 @@
 -- AArch64, LP64 (AArch64 ELF ABI, "Relocation types"; "Procedure Linkage Table" as GNU and LLVM linkers write
 -- it). Page(x) clears 12 bits, whatever the pages of the system.
-use Rattle.std.specs.Prelude.{ℕ, ℤ, pos, ◌-ℤ◌, ◌+◌, List, [], ◌∷◌, ◌++◌}
+use Rattle.std.specs.Prelude.{ℕ, pos, ◌-ℤ◌, ◌+◌, List, [], ◌∷◌, ◌++◌}
 use Rattle.std.specs.Int.{w32, to_le_bytes}
 use Rattle.link_machine.specs.Patch.{patched}
 use Rattle.link_machine.specs.Rules.{MachineRules, DynamicTypes}
@@ -72,7 +72,8 @@ jump_through at slot =
 -- stp x16, x30, [sp, #-16]!; the jump through the third word of .got.plt; nop three times
 abbrev pub a64_header : ℕ → ℕ → List ℕ
 a64_header at got_plt =
-    word 0xa9bf7bf0 ++ jump_through (at + 4) (got_plt + 16) ++ word 0xd503201f ++ word 0xd503201f ++ word 0xd503201f
+    word 0xa9bf7bf0 ++ jump_through (at + 4) (got_plt + 16)
+    ++ word 0xd503201f ++ word 0xd503201f ++ word 0xd503201f
 
 abbrev pub a64_entry : ℕ → ℕ → ℕ → ℕ → List ℕ
 a64_entry at slot header index = jump_through at slot

@@ -18,7 +18,8 @@ is_replaced (Two b c) i = is_in b i || is_in c i
 
 -- a patch changes only the bits of its field
 abbrev pub KeepsOtherBits : Field → ℤ → ℕ → Type 0
-KeepsOtherBits field z old = (i : ℕ) → is_replaced field i ≡ false → bit_at (patched field z old) i ≡ bit_at old i
+KeepsOtherBits field z old =
+    (i : ℕ) → is_replaced field i ≡ false → bit_at (patched field z old) i ≡ bit_at old i
 
 -- of two patches of a field the later one stands; so to patch twice is to patch once
 abbrev pub LaterStands : Field → ℤ → ℤ → ℕ → Type 0

@@ -53,6 +53,6 @@ patch_of rules kind value old = option_map_or (λ r. patch_by r value old) (rule
 abbrev pub padded : ℕ → List ℕ → List ℕ
 padded n bytes = bytes ++ replicate (n - length bytes) 0
 
--- each of the 32 bytes at a is so near to each of the 32 bytes at b that a signed number of 32 bits says how far
+-- a signed number of 32 bits says how far each of the 32 bytes at a is from each of the 32 bytes at b
 abbrev pub IsNear : ℕ → ℕ → Type 0
 IsNear a b = (a + 32 ≤ b + 2 ^ 31) × (b + 32 ≤ a + 2 ^ 31)

@@ -11,8 +11,17 @@ use Rattle.link_machine.specs.declared.rule.Rule.{Rule}
 
 -- type, class, value, size of the field, bits of the field, range, multiple
 abbrev pub row : ℕ → RefClass → Formula → ℕ → Field → Range → ℕ → ℕ × Rule
-row kind class formula size field range multiple =
-    (kind, record { class = class; formula = formula; size = size; field = field; range = range; multiple = multiple })
+row kind class formula size field range multiple = (
+  kind,
+  record {
+    class = class;
+    formula = formula;
+    size = size;
+    field = field;
+    range = range;
+    multiple = multiple;
+  },
+)
 
 -- the rule of a type
 abbrev pub rule_in : List (ℕ × Rule) → ℕ → Option Rule

@@ -1,6 +1,6 @@
 -- The values of references, as whole numbers of any sign (psABI x86-64, "Relocation Types"; AArch64 ELF ABI,
 -- "Relocation operations").
-use Rattle.std.specs.Prelude.{ℕ, ℤ, pos, ◌+ℤ◌, ◌-ℤ◌}
+use Rattle.std.specs.Prelude.{ℤ, pos, ◌+ℤ◌, ◌-ℤ◌}
 use Rattle.std.specs.Int.{int_rem_euclid}
 use Rattle.link_machine.specs.declared.class.Values.{Values}
 use Rattle.link_machine.specs.declared.rule.Formula.{Formula}

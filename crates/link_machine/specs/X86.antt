@@ -1,5 +1,5 @@
 -- x86-64 (psABI, "Relocation Types", "Procedure Linkage Table").
-use Rattle.std.specs.Prelude.{ℕ, ℤ, pos, ◌-ℤ◌, ◌+◌, ◌^◌, List, [], ◌∷◌, ◌++◌}
+use Rattle.std.specs.Prelude.{ℕ, pos, ◌-ℤ◌, ◌+◌, ◌^◌, List, [], ◌∷◌, ◌++◌}
 use Rattle.std.specs.Int.{w32, to_le_bytes}
 use Rattle.link_machine.specs.Patch.{modulo}
 use Rattle.link_machine.specs.Rules.{MachineRules, DynamicTypes}

@@ -1,4 +1,4 @@
-//! The machine AArch64 of a link, of programs with addresses of 64 bits (AArch64 ELF ABI).
+//! The machine AArch64 of a link (ELF for the Arm 64-bit Architecture, LP64).
 #![tactic(auto)]
 
 mod plt;
@@ -6,7 +6,6 @@ mod table;
 #[cfg(test)]
 mod tests;
 
-ghost use Rattle.std.specs.Prelude.{◌≡◌};
 ghost use Rattle.link_machine.specs.A64.{a64_rules};
 
 use link_machine::{Machine, PatchCause, RefClass, Values, patch_by, value_by};

@@ -7,7 +7,7 @@ ghost use Rattle.link_machine.specs.Rules.{IsNear};
 use crate::A64;
 use link_machine::{Machine, PatchCause, RefClass, Values};
 
-/// A type that checks a range, an instruction of it, the least value, the end of the values, and the instruction
+/// A type that checks a range, an instruction, the least value and the end of the values, and the instruction
 /// with the least value and with the greatest one.
 #[derive(Clone, Copy)]
 struct Ends {

@@ -12,5 +12,5 @@ returns c =
     let f = c.args.field in
     let z = c.args.value in
     let whole : modulo c.args.value (2 ^ lowest c.args.field) ≡ 0 =
-        eqb-true (modulo c.args.value (2 ^ lowest c.args.field)) 0 c.requires.whole in
+    eqb-true (modulo c.args.value (2 ^ lowest c.args.field)) 0 c.requires.whole in
     signed_read f z c.args.old (read_back f z c.args.old c.requires.sound c.requires.joined whole) c.requires.some c.requires.fits

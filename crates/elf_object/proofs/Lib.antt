@@ -1,0 +1,5 @@
+pub mod Division
+pub mod Range
+pub mod Search
+pub mod Tables
+pub mod Lying
