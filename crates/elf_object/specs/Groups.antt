@@ -1,5 +1,5 @@
--- The groups of an object (gABI, "Section Groups"): words of 32 bits, of which the first is flags and the others
--- are the numbers of the group's sections.
+-- The groups of an object (gABI, "Section Groups"): words of 32 bits, of which the first is flags and the
+-- others are the numbers of the group's sections.
 use Rattle.std.specs.Prelude.{ℕ, ◌%◌, Bool, not, ◌==◌, ◌&&◌, ◌||◌, nat_le, if◌then◌else◌, List, [], ◌∷◌, true, false, map, Option, Some, None, is_some}
 use Rattle.std.specs.List.{find, filter_map}
 use Rattle.ifs_bytes.specs.Places.{places}
@@ -24,10 +24,12 @@ is_group s = s.kind == SHT_GROUP
 unfoldable pub stray_member : List ℕ → Header → Span → Option ℕ
 stray_member file h span = find (λ k. nat_le h.shnum (word_in file span k)) (places 1 (word_count span))
 
--- the section is a group of no words, of part of a word, whose symbol is no row, or with a member that is no section
+-- the section is a group of no words, of part of a word, whose symbol is no row, or with a member that is no
+-- section
 unfoldable pub is_bad_group : List ℕ → Header → Parts → SectionHeader → Bool
 is_bad_group file h p s =
-    is_group s && (s.size == 0 || not (s.size % 4 == 0) || nat_le (row_count p) s.info || is_some (stray_member file h (span_of s)))
+    is_group s
+    && (s.size == 0 || not (s.size % 4 == 0) || nat_le (row_count p) s.info || is_some (stray_member file h (span_of s)))
 
 -- the first bad group
 unfoldable pub bad_group : List ℕ → Header → Parts → Option ℕ
@@ -37,8 +39,8 @@ abbrev pub is_empty : List ℕ → Bool
 is_empty [] = true
 is_empty (b ∷ bs) = false
 
--- the name of a group whose symbol is this: that of the symbol's section, where the symbol is a section's own and
--- has no name
+-- the name of a group whose symbol is this: that of the symbol's section, where the symbol is a section's own
+-- and has no name
 abbrev pub signature_at : List ℕ → Header → Parts → ObjSymbol → ObjPlace → List ℕ
 signature_at file h p symbol Undefined = symbol.name
 signature_at file h p symbol Absolute = symbol.name
@@ -63,7 +65,8 @@ group_of file h p s = record {
 
 -- section i, where it is a group
 unfoldable pub group_at : List ℕ → Header → Parts → ℕ → Option Group
-group_at file h p i = if is_group (section_in file h i) then Some (group_of file h p (section_in file h i)) else None
+group_at file h p i =
+    if is_group (section_in file h i) then Some (group_of file h p (section_in file h i)) else None
 
 -- the groups, in order
 unfoldable pub groups_of : List ℕ → Header → Parts → List Group

@@ -1,5 +1,5 @@
--- An object by the bytes of its file, or the first cause why it can't be read. The causes come in the order of
--- these conditions, each of which is a fact on places of the whole file; no sum wraps.
+-- An object by the bytes of its file, or the first cause why it can't be read. The causes come in the order
+-- of these conditions, each of which is a fact on places of the whole file; no sum wraps.
 use Rattle.std.specs.Prelude.{ℕ, Bool, true, false, ◌==◌, ◌&&◌, List, map, is_none, Result, Ok, Err}
 use Rattle.ifs_bytes.specs.Outcome.{◌>>=◌, check}
 use Rattle.ifs_bytes.specs.Places.{places}

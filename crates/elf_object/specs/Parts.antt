@@ -96,7 +96,8 @@ parts_of file h = do
 
 -- all sections with bytes lie in the file
 abbrev pub SectionsLie : List ℕ → Header → Type 0
-SectionsLie file h = (i : ℕ) → i < h.shnum → has_bytes (section_in file h i) ≡ true → SpanLies file (span_of (section_in file h i))
+SectionsLie file h =
+    (i : ℕ) → i < h.shnum → has_bytes (section_in file h i) ≡ true → SpanLies file (span_of (section_in file h i))
 
 -- so do the parts
 pub record PartsLie (file : List ℕ) (h : Header) (p : Parts) : Type 0 where

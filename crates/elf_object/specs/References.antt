@@ -58,20 +58,23 @@ entry_of file table k =
 
 -- the first entry whose symbol is no row
 unfoldable pub stray_entry : List ℕ → Parts → SectionHeader → Option ℕ
-stray_entry file p table = find (λ k. nat_le (row_count p) (entry_of file table k).symbol) (places 0 (entry_count table))
+stray_entry file p table =
+    find (λ k. nat_le (row_count p) (entry_of file table k).symbol) (places 0 (entry_count table))
 
--- section i, a table, has no addends, comes behind another for its section, has part of an entry or more than can
--- be numbered, is for another symbol table, or has an entry whose symbol is no row
+-- section i, a table, has no addends, comes behind another for its section, has part of an entry or more than
+-- can be numbered, is for another symbol table, or has an entry whose symbol is no row
 unfoldable pub is_bad_as_table : List ℕ → Header → Parts → ℕ → Bool
 is_bad_as_table file h p i =
     let table = section_in file h i in
-    table.kind == SHT_REL || not (is_place (first_table file h table.info) i) || not (table.size % ENTRY_SIZE == 0)
-    || nat_lt MOST_ENTRIES (entry_count table) || not (is_place p.table table.link) || is_some (stray_entry file p table)
+    table.kind == SHT_REL || not (is_place (first_table file h table.info) i)
+    || not (table.size % ENTRY_SIZE == 0) || nat_lt MOST_ENTRIES (entry_count table)
+    || not (is_place p.table table.link) || is_some (stray_entry file p table)
 
 -- section i is a bad table of a loadable section
 abbrev pub is_bad_table : List ℕ → Header → Parts → ℕ → Bool
 is_bad_table file h p i =
-    is_table (section_in file h i) && is_loadable_at file h p (section_in file h i).info && is_bad_as_table file h p i
+    is_table (section_in file h i) && is_loadable_at file h p (section_in file h i).info
+    && is_bad_as_table file h p i
 
 -- the first one
 unfoldable pub bad_table : List ℕ → Header → Parts → Option ℕ
@@ -79,7 +82,8 @@ bad_table file h p = find (is_bad_table file h p) (places 0 h.shnum)
 
 abbrev pub entries_of : List ℕ → Header → Option ℕ → List Reference
 entries_of file h None = []
-entries_of file h (Some i) = map (entry_of file (section_in file h i)) (places 0 (entry_count (section_in file h i)))
+entries_of file h (Some i) =
+    map (entry_of file (section_in file h i)) (places 0 (entry_count (section_in file h i)))
 
 -- the references of section s: the entries of its table, if it is loadable
 unfoldable pub references_at : List ℕ → Header → Parts → ℕ → List Reference

@@ -23,7 +23,14 @@ unnamed_section file h p = find (λ i. is_none (section_name file h p i)) (place
 unfoldable pub section_at : List ℕ → Header → Parts → ℕ → ObjSection
 section_at file h p i =
     let s = section_in file h i in
-    record { name = unwrap_or (section_name file h p i) []; kind = s.kind; flags = s.flags; offset = s.offset; size = s.size; align = s.align }
+    record {
+      name = unwrap_or (section_name file h p i) [];
+      kind = s.kind;
+      flags = s.flags;
+      offset = s.offset;
+      size = s.size;
+      align = s.align;
+    }
 
 -- the flags have a bit
 abbrev pub is_alloc : ℕ → Bool
@@ -35,8 +42,8 @@ is_compressed flags = flags / SHF_COMPRESSED % 2 == 1
 -- the types of sections that a link takes into its image
 abbrev pub is_image_kind : ℕ → Bool
 is_image_kind kind =
-    kind == SHT_PROGBITS || kind == SHT_NOTE || kind == SHT_NOBITS || kind == SHT_INIT_ARRAY || kind == SHT_FINI_ARRAY
-    || kind == SHT_PREINIT_ARRAY || kind == SHT_X86_64_UNWIND
+    kind == SHT_PROGBITS || kind == SHT_NOTE || kind == SHT_NOBITS || kind == SHT_INIT_ARRAY
+    || kind == SHT_FINI_ARRAY || kind == SHT_PREINIT_ARRAY || kind == SHT_X86_64_UNWIND
 
 -- the note that a linker makes of those of all objects
 abbrev pub is_property_note : List ℕ → Bool
@@ -53,4 +60,5 @@ is_loadable_at file h p i = nat_lt i h.shnum && is_loadable (section_at file h p
 -- the first section that is loaded and compressed
 unfoldable pub compressed_section : List ℕ → Header → Option ℕ
 compressed_section file h =
-    find (λ i. is_alloc (section_in file h i).flags && is_compressed (section_in file h i).flags) (places 0 h.shnum)
+    find (λ i. is_alloc (section_in file h i).flags && is_compressed (section_in file h i).flags)
+    (places 0 h.shnum)

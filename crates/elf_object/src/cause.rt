@@ -6,8 +6,8 @@ use ifs_bytes::Memory;
 /// Why a relocatable object can't be read.
 #[derive(Clone, Copy, Debug, PartialEq, Eq)]
 pub enum ObjectCause {
-    /// What any ELF file may be refused for. `WrongKind`: it is no relocatable object, or none of 64 bits with
-    /// the lowest byte first.
+    /// What any ELF file may be refused for. `WrongKind`: it is no relocatable object, or none of 64 bits
+    /// with the lowest byte first.
     Elf(ElfCause),
     /// The section with this number is a relocation table that can't be applied.
     BadRelocationTable(u64),

@@ -54,7 +54,8 @@ fn stray_member(elf: &Elf, span: Span) -> Option<u64>
 fn is_bad_group(elf: &Elf, parts: &Parts, i: u64) -> bool
     requires lie { PartsLie elf.now.bytes elf.now.header parts.now }
     requires within { i < elf.now.header.shnum }
-    ensures { result ≡ meant.is_bad_group elf.now.bytes elf.now.header parts.now (section_in elf.now.bytes elf.now.header i) }
+    ensures { result ≡ meant.is_bad_group elf.now.bytes elf.now.header parts.now
+        (section_in elf.now.bytes elf.now.header i) }
 {
     let header = section(elf, i);
     if header.kind != SHT_GROUP {
@@ -123,7 +124,8 @@ fn members_of(alloc: Global, bytes: &[u8], span: Span) -> Result<Vec<u32>, Memor
 fn group_at(alloc: Global, elf: &Elf, parts: &Parts, i: u64) -> Result<Option<Group>, Memory>
     requires lie { PartsLie elf.now.bytes elf.now.header parts.now }
     requires within { i < elf.now.header.shnum }
-    requires good { meant.is_bad_group elf.now.bytes elf.now.header parts.now (section_in elf.now.bytes elf.now.header i) ≡ false }
+    requires good { meant.is_bad_group elf.now.bytes elf.now.header parts.now
+        (section_in elf.now.bytes elf.now.header i) ≡ false }
     ensures { IfOk result (λ group. group ≡ meant.group_at elf.now.bytes elf.now.header parts.now i) }
 {
     let header = section(elf, i);

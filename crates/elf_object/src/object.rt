@@ -39,12 +39,12 @@ impl Model for Object {
 }
 
 impl Object {
-    /// The object in the bytes of a file, which it owns from then on, or the first cause why it can't be read:
-    /// a cause of `Elf::parse`; `WrongKind`, the file is no relocatable object of 64 bits with the lowest byte
-    /// first; `Truncated`, the bytes of a section aren't all in the file; `BadHeader`, an alignment is none, or
-    /// the names of sections or of symbols are no string table; `BadName` of a section, then of a row;
-    /// `BadHeader`, a row or a group names a section, or a group a row, that isn't there; `BadRelocationTable`,
-    /// `CompressedSection`, `IfuncDefinition`. A refused file is let go.
+    /// The object in the bytes of a file, which it owns from then on, or the first cause why it can't be
+    /// read: a cause of `Elf::parse`; `WrongKind`, the file is no relocatable object of 64 bits with the
+    /// lowest byte first; `Truncated`, the bytes of a section aren't all in the file; `BadHeader`, an
+    /// alignment is none, or the names of sections or of symbols are no string table; `BadName` of a section,
+    /// then of a row; `BadHeader`, a row or a group names a section, or a group a row, that isn't there;
+    /// `BadRelocationTable`; `CompressedSection`; `IfuncDefinition`. The bytes of a refused file are let go.
     pub fn parse(alloc: Global, bytes: Text) -> Result<Object, ObjectCause>
         ensures { UnlessMemory ObjectCause.Memory result (meant.object_of bytes) }
     {
@@ -211,7 +211,8 @@ fn read_all(
     requires first { AreFirstFrom elf.now.bytes elf.now.header 0 tables.now }
     requires groups { bad_group elf.now.bytes elf.now.header parts.now ≡ None }
     requires tables { bad_table elf.now.bytes elf.now.header parts.now ≡ None }
-    ensures { IfOk result (λ read. meant.with_bytes elf.now.bytes read ≡ meant.object_at elf.now.bytes elf.now.header parts.now) }
+    ensures { IfOk result (λ read. meant.with_bytes elf.now.bytes read
+        ≡ meant.object_at elf.now.bytes elf.now.header parts.now) }
 {
     Ok(Contents {
         machine: elf.header().machine,

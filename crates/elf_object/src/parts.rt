@@ -174,7 +174,8 @@ fn strings_of(elf: &Elf, link: u64) -> Result<Span, ObjectCause>
 // The bytes of the first section of section numbers, if there is one.
 fn numbers(elf: &Elf) -> Span
     requires { SectionsLie elf.now.bytes elf.now.header }
-    ensures exact { result ≡ span_if elf.now.bytes elf.now.header (first_of elf.now.bytes elf.now.header SHT_SYMTAB_SHNDX) }
+    ensures exact { result
+        ≡ span_if elf.now.bytes elf.now.header (first_of elf.now.bytes elf.now.header SHT_SYMTAB_SHNDX) }
     ensures lies { SpanLies elf.now.bytes result }
 {
     match first_of(elf, SHT_SYMTAB_SHNDX) {

@@ -207,7 +207,8 @@ fn push_entries(
     requires lie { SpanLies bytes.now (span_of table.now) }
     requires few { meant.entry_count table.now ≤ MOST_ENTRIES }
     ensures { OnOk result (references.new.items
-        ≡ references.old.items ++ map (meant.entry_of bytes.now table.now) (places 0 (meant.entry_count table.now))) }
+        ≡ references.old.items
+        ++ map (meant.entry_of bytes.now table.now) (places 0 (meant.entry_count table.now))) }
 {
     for k in 0..table.size / ENTRY_SIZE {
         references.push(entry_of(bytes, table, k))?;

@@ -139,8 +139,8 @@ fn is_property_note(name: &[u8]) -> bool
 }
 
 impl ObjSection {
-    /// Whether a link takes the section into its image, if it keeps it: it is loaded into memory (SHF_ALLOC), of a
-    /// type that a program's own sections have, and not `.note.gnu.property`.
+    /// Whether a link takes the section into its image, if it keeps it: it is loaded into memory
+    /// (SHF_ALLOC), of a type that a program's own sections have, and not `.note.gnu.property`.
     #[tactic(auto, unfolding(crate::specs::Sections::is_loadable))]
     pub fn is_loadable(&self) -> bool
         ensures { result ≡ meant.is_loadable self.now }

@@ -1,12 +1,10 @@
 //! The machine x86-64 of a link (psABI, "Relocation Types" and "Procedure Linkage Table").
 #![tactic(auto)]
 
-ghost use Rattle.std.specs.Prelude.{◌≡◌};
+ghost use Rattle.link_machine.specs.X86.{x86_rules};
 
 mod plt;
 mod table;
-
-ghost use Rattle.link_machine.specs.X86.{x86_rules};
 
 use link_machine::{Machine, PatchCause, RefClass, Values, patch_by, value_by};
 

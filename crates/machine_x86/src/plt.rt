@@ -1,18 +1,15 @@
 //! The procedure linkage table.
 
-ghost use Rattle.std.specs.Prelude.{◌≡◌, ◌-ℤ◌, ◌≤ℤ◌, ◌+◌, ◌^◌, ◌<◌, pos, length};
-ghost use Rattle.std.specs.Int.{w32, to_le_bytes};
-ghost use Rattle.link_machine.specs.Patch.{modulo};
-ghost use Rattle.link_machine.specs.Rules.{IsNear, padded};
+ghost use Rattle.std.specs.Prelude.{◌≡◌, ◌+◌};
+ghost use Rattle.link_machine.specs.Rules.{padded};
 ghost use Rattle.link_machine.specs.X86.{displacement, x86_header, x86_entry};
 
 /// 2^32.
 const TWO_32: i128 = 0x1_0000_0000;
 
-/// How far `address` is from the end of an instruction, `after` bytes behind the address `at`.
+/// The displacement to the byte `more` bytes behind `address`, from an instruction that ends `after` bytes
+/// behind `at`.
 fn distance(at: u64, after: u64, address: u64, more: u64) -> [u8; 4]
-    requires short { after < 256 }
-    requires near { more < 256 }
     ensures { result ≡ displacement (at + after) (address + more) }
 {
     let from = i128::from(at) + i128::from(after);

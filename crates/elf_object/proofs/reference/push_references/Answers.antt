@@ -4,12 +4,20 @@ use Rattle.elf_object.proofs.reference.push_references.Goals as goal
 
 pub section-requires : goal.section-requires
 section-requires c =
-    (good_table c.args.elf.now.bytes c.args.elf.now.header c.args.parts.now c.args.s c.in-Some.i c.requires.lie.sections_lie c.requires.good (search rules) (sym c.in-Some.ensures)).there
+    let a = c.args in
+    let lie = c.requires.lie.sections_lie in
+    (good_table a.elf.now.bytes a.elf.now.header a.parts.now a.s c.in-Some.i lie c.requires.good (search rules) (sym c.in-Some.ensures)).there
 
 pub push_entries-requires-clause-lie : goal.push_entries-requires-clause-lie
 push_entries-requires-clause-lie c =
-    rw (c.bytes.ensures, c.section.ensures) (good_table c.args.elf.now.bytes c.args.elf.now.header c.args.parts.now c.args.s c.in-Some.i c.requires.lie.sections_lie c.requires.good (search rules) (sym c.in-Some.ensures)).lie
+    let a = c.args in
+    let lie = c.requires.lie.sections_lie in
+    let good = good_table a.elf.now.bytes a.elf.now.header a.parts.now a.s c.in-Some.i lie c.requires.good (search rules) (sym c.in-Some.ensures) in
+    rw (c.bytes.ensures, c.section.ensures) good.lie
 
 pub push_entries-requires-clause-few : goal.push_entries-requires-clause-few
 push_entries-requires-clause-few c =
-    rw (c.section.ensures) (good_table c.args.elf.now.bytes c.args.elf.now.header c.args.parts.now c.args.s c.in-Some.i c.requires.lie.sections_lie c.requires.good (search rules) (sym c.in-Some.ensures)).few
+    let a = c.args in
+    let lie = c.requires.lie.sections_lie in
+    let good = good_table a.elf.now.bytes a.elf.now.header a.parts.now a.s c.in-Some.i lie c.requires.good (search rules) (sym c.in-Some.ensures) in
+    rw (c.section.ensures) good.few
