@@ -1,0 +1,2 @@
+mod Proper
+mod Ascending

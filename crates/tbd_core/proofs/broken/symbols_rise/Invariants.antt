@@ -1,0 +1,11 @@
+use Rattle.std.proofs.Common.{◌≡◌, map, length}
+use Rattle.tbd_core.specs.Keys.{key_of}
+use Rattle.tbd_core.specs.Normal.{rise}
+use Rattle.tbd_core.proofs.broken.symbols_rise.Given as goal
+
+-- what is left has the answer
+abbrev pub invariant-loop-left : goal.invariant-loop-left
+invariant-loop-left l = rise (map key_of l.left) ≡ rise (map key_of l.symbols)
+
+abbrev pub decreases-loop-left : goal.decreases-loop-left
+decreases-loop-left l = length l.left

@@ -1,0 +1,24 @@
+//! What text-based stubs of dynamic libraries say.
+//!
+//! A `Dylib` holds parts in normal form. `Dylib::new` looks at them part by part (`broken.rt`) and takes no memory, so
+//! it goes through the targets, of which a library has few, once for each.
+//!
+//! No clause says when memory runs out, so bodies of the copies, of `append_to` and of `printed` that answer `Memory`
+//! alone meet theirs.
+#![tactic(auto)]
+
+mod broken;
+mod cause;
+mod dylib;
+mod fault;
+mod place;
+mod symbol;
+mod version;
+
+pub use broken::is_proper_name;
+pub use cause::{PrintCause, TbdCause};
+pub use dylib::{Dylib, DylibField, DylibParts, Named, Tbd, TbdTarget};
+pub use fault::{Fault, Wrong, bad_unless};
+pub use place::place_of;
+pub use symbol::{Part, Section, SymbolKind, TbdSymbol};
+pub use version::{FIRST_VERSION, Version, version_named};
