@@ -16,3 +16,6 @@ mod stub;
 mod top;
 
 pub use top::run;
+
+#[cfg(test)]
+mod tests;

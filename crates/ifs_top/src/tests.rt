@@ -1,3 +1,4 @@
+use super::*;
 use ifs_bytes::Memory;
 use ifs_outside::{MemoryFiles, MemorySink, MemorySource};
 use std::alloc::Global;
@@ -52,18 +53,6 @@ struct After<'a> {
     err: &'a [u8],
 }
 
-// The status of a run. No clause: what the tests assert follows from values alone, and the contract of `run` is long.
-fn status_of(
-    alloc: Global,
-    words: &[String],
-    input: &mut MemorySource,
-    files: &mut MemoryFiles,
-    out: &mut MemorySink,
-    err: &mut MemorySink,
-) -> u8 {
-    ifs_top::run(alloc, words, input, files, out, err)
-}
-
 // The words of a line, which spaces part; an empty line has none.
 fn words_in(alloc: Global, line: &str) -> Result<Vec<String>, Memory> {
     let mut words = Vec::new(alloc);
@@ -108,7 +97,7 @@ fn ends(alloc: Global, line: &str, before: Before, after: After) -> Result<bool,
     put_others(alloc, &mut files)?;
     let mut out = MemorySink::new(alloc, Vec::from_slice(alloc, before.out)?);
     let mut err = MemorySink::new(alloc, Vec::from_slice(alloc, before.err)?);
-    let status = status_of(alloc, &words, &mut input, &mut files, &mut out, &mut err);
+    let status = run(alloc, &words, &mut input, &mut files, &mut out, &mut err);
     if status == 5 {
         return Err(Memory);
     }
@@ -525,7 +514,7 @@ fn writes_stub(
     files.put(b"F", file)?;
     let mut out = MemorySink::new(alloc, Vec::new(alloc));
     let mut err = MemorySink::new(alloc, Vec::new(alloc));
-    let status = status_of(alloc, &words, &mut input, &mut files, &mut out, &mut err);
+    let status = run(alloc, &words, &mut input, &mut files, &mut out, &mut err);
     if status == 5 {
         return Err(Memory);
     }
@@ -589,7 +578,7 @@ fn writes_of(alloc: Global, line: &str, runs: u64, held: &[u8]) -> Result<u64, M
     let mut out = MemorySink::new(alloc, Vec::new(alloc));
     let mut err = MemorySink::new(alloc, Vec::new(alloc));
     for _run in 0..runs {
-        if status_of(alloc, &words, &mut input, &mut files, &mut out, &mut err) != 0 {
+        if run(alloc, &words, &mut input, &mut files, &mut out, &mut err) != 0 {
             return Err(Memory);
         }
     }
@@ -636,7 +625,7 @@ fn leaves(alloc: Global, outputs: Outputs, text: &[u8]) -> Result<bool, Memory> 
     files.put(b"kept", b"old")?;
     let mut out = MemorySink::new(alloc, Vec::from_slice(alloc, outputs.out)?);
     let mut err = MemorySink::new(alloc, Vec::new(alloc));
-    let status = status_of(alloc, &words, &mut input, &mut files, &mut out, &mut err);
+    let status = run(alloc, &words, &mut input, &mut files, &mut out, &mut err);
     if status == 5 {
         return Err(Memory);
     }
