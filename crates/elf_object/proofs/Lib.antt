@@ -3,3 +3,4 @@ pub mod Range
 pub mod Search
 pub mod Tables
 pub mod Lying
+pub mod Room

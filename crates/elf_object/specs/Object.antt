@@ -1,6 +1,6 @@
 -- An object by the bytes of its file, or the first cause why it can't be read. The causes come in the order
 -- of these conditions, each of which is a fact on places of the whole file; no sum wraps.
-use Rattle.std.specs.Prelude.{ℕ, Bool, true, false, ◌==◌, ◌&&◌, List, map, is_none, Result, Ok, Err}
+use Rattle.std.specs.Prelude.{◌≡◌, ℕ, ◌*◌, ◌≤◌, Bool, true, false, ◌==◌, ◌&&◌, List, length, map, is_none, Result, Ok, Err}
 use Rattle.ifs_bytes.specs.Outcome.{◌>>=◌, check}
 use Rattle.ifs_bytes.specs.Places.{places}
 use Rattle.ifs_bytes.specs.declared.form.Order.{Order}
@@ -84,6 +84,16 @@ object_of file = do
   _ ← checked_names file h p
   _ ← checked_tables file h p
   Ok (object_at file h p)
+
+-- the bytes have room for the section headers, of 64 bytes, and for the rows, of 24
+pub record HasRoom (o : ObjectRecord) : Type 0 where
+  pub sections : length o.sections * 64 ≤ length o.bytes
+  pub symbols : length o.symbols * 24 ≤ length o.bytes
+
+-- the object is the one of its own bytes
+pub record IsRead (o : ObjectRecord) : Type 0 where
+  pub by_bytes : object_of o.bytes ≡ Ok o
+  pub room : HasRoom o
 
 -- what was read, with the bytes of the file
 abbrev pub with_bytes : List ℕ → Contents → ObjectRecord

@@ -1,7 +1,8 @@
 //! A relocatable object.
 
-ghost use Rattle.std.specs.Prelude.{◌≡◌, None, IfOk, Result};
+ghost use Rattle.std.specs.Prelude.{◌≡◌, None, IfOk, Result, true};
 ghost use Rattle.ifs_bytes.specs.Outcome.{UnlessMemory};
+ghost use Rattle.elf_file.specs.ElfFile.{HeaderFits};
 ghost use Rattle.elf_object.specs.Object as meant;
 ghost use Rattle.elf_object.specs.Groups.{bad_group};
 ghost use Rattle.elf_object.specs.Parts.{SectionsLie, PartsLie};
@@ -32,10 +33,13 @@ pub struct Object {
 
 impl Model for Object {
     ghost use Rattle.elf_object.specs.Record.{ObjectRecord};
+    ghost use Rattle.elf_object.specs.Object.{IsRead};
 
     ghost Value = { ObjectRecord };
 
     ghost view = { λ o. record { machine = o.machine; bytes = o.bytes; sections = o.sections; symbols = o.symbols; references = o.references; groups = o.groups } };
+
+    ghost invariant = { λ o. IsRead (record { machine = o.machine; bytes = o.bytes; sections = o.sections; symbols = o.symbols; references = o.references; groups = o.groups }) };
 }
 
 impl Object {
@@ -143,6 +147,8 @@ fn object_header(bytes: &[u8]) -> Result<Elf<'_>, ObjectCause>
     ensures exact { meant.header_of_elf result ≡ meant.object_header bytes.now }
     ensures bytes { IfOk result (λ elf. elf.bytes ≡ bytes.now) }
     ensures lie { IfOk result (λ elf. SectionsLie elf.bytes elf.header) }
+    ensures wide { IfOk result (λ elf. meant.is_wide elf.header.width ≡ true) }
+    ensures fits { IfOk result (λ elf. HeaderFits elf.bytes elf.header) }
 {
     let elf = Elf::parse(bytes)?;
     if !is_relocatable(elf.header()) {
@@ -226,7 +232,8 @@ fn read_all(
 // The contents of the object in the bytes of a file, or the first cause.
 #[tactic(auto, unfolding(crate::specs::Object::object_of))]
 fn read(alloc: Global, bytes: &[u8]) -> Result<Contents, ObjectCause>
-    ensures { UnlessMemory ObjectCause.Memory (meant.read_with bytes.now result) (meant.object_of bytes.now) }
+    ensures exact { UnlessMemory ObjectCause.Memory (meant.read_with bytes.now result) (meant.object_of bytes.now) }
+    ensures room { IfOk result (λ read. meant.HasRoom (meant.with_bytes bytes.now read)) }
 {
     let elf = object_header(bytes)?;
     let parts = parts_of(&elf)?;
