@@ -11,6 +11,7 @@ ghost use Rattle.link_machine.specs.A64.{a64_rules};
 use link_machine::{Machine, PatchCause, RefClass, Values, patch_by, value_by};
 
 /// AArch64.
+#[derive(Clone, Copy, Debug)]
 pub struct A64;
 
 impl Machine for A64 {

@@ -9,6 +9,7 @@ mod table;
 use link_machine::{Machine, PatchCause, RefClass, Values, patch_by, value_by};
 
 /// x86-64.
+#[derive(Clone, Copy, Debug)]
 pub struct X86;
 
 impl Machine for X86 {
