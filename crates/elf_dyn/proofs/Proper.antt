@@ -1,5 +1,5 @@
--- The names that are read are proper: they aren't empty, and have no NUL.
-use Rattle.std.proofs.Common.{◌≡◌, ℕ, suc, ◌+◌, Bool, true, false, cond, ltb, List, [], ◌∷◌, length, take, drop, Option, Some, None, refl, ap, ◌∙◌, arith}
+-- What is read is of a file, and its names are proper: they aren't empty, and have no NUL.
+use Rattle.std.proofs.Common.{◌≡◌, ℕ, suc, ◌+◌, Bool, true, false, cond, ltb, List, [], ◌∷◌, length, take, drop, Option, Some, None, Ok, refl, sym, ap, ◌∙◌, arith}
 use Rattle.std.specs.Prelude.{not, ◌&&◌, ◌==◌}
 use Rattle.std.specs.List.{list_all, filter_map, cons_option, prefix_len, position_or_len}
 use Rattle.std.specs.Option.{option_map, option_and_then}
@@ -14,8 +14,9 @@ use Rattle.elf_dyn.specs.declared.places.Entries.{Entries}
 use Rattle.elf_dyn.specs.declared.places.Places.{Places}
 use Rattle.elf_dyn.specs.declared.places.Strings.{Strings}
 use Rattle.elf_dyn.specs.declared.constants.TheConstants.{DT_NEEDED, DT_SONAME}
-use Rattle.elf_dyn.specs.Entries.{entry, entry_name, first_with, needed_at, needed_of, soname_of}
-use Rattle.elf_dyn.specs.Library.{library_at}
+use Rattle.elf_dyn.specs.Entries.{entry, entry_name, first_with, defines_versions, needed_at, needed_of, soname_of}
+use Rattle.elf_dyn.specs.Library.{library_at, library_of, IsRead}
+use Rattle.elf_dyn.specs.Rank.{are_bytes}
 use Rattle.elf_dyn.specs.Rows.{row, row_name, is_candidate, named_row, visible_row, visible_rows}
 use Rattle.elf_dyn.specs.Strings.{name_of, string_table, unless_empty}
 
@@ -86,4 +87,17 @@ proper_library file h p n = record {
   soname_is_proper = soname_case file p.entries p.entry_strings (first_with file p.entries n DT_SONAME);
   needed_are_proper = all_kept is_proper_name (needed_at file p.entries p.entry_strings) (λ i. if_kept is_proper_name ((entry file p.entries i).tag == DT_NEEDED) _ (proper_name file p.entry_strings (entry file p.entries i).value)) (places 0 n);
   rows_are_proper = all_kept (λ (row : DynRow). is_proper_name row.name) (visible_row file p.rows p.row_strings) (λ i. if_kept (λ (row : DynRow). is_proper_name row.name) (is_candidate (row file p.rows i)) _ (named (row file p.rows i) (unless_empty (row_name file p.rows p.row_strings i)) (proper_name file p.row_strings (row file p.rows i).name))) (places 1 p.rows.count);
+}
+
+-- what was read of a file is its library
+pub read_from : (file : List ℕ) (h : Header) (p : Places) (n : ℕ) (soname : Option (List ℕ)) (needed : List (List ℕ)) (rows : List DynRow) (versioned : Bool)
+    → are_bytes file ≡ true → library_of file ≡ Ok (library_at file h p n)
+    → soname ≡ soname_of file p.entries p.entry_strings n → needed ≡ needed_of file p.entries p.entry_strings n
+    → rows ≡ visible_rows file p.rows p.row_strings → versioned ≡ defines_versions file p.entries n
+    → IsRead (record { machine = h.machine; order = h.order; width = h.width; soname = soname; needed = needed; rows = rows; versioned = versioned })
+unfolding library_at
+read_from file h p n soname needed rows versioned bytes is s m r v = record {
+  file = file;
+  bytes = bytes;
+  is_its = is ∙ (λ i. Ok (record { machine = h.machine; order = h.order; width = h.width; soname = (sym s) i; needed = (sym m) i; rows = (sym r) i; versioned = (sym v) i }));
 }

@@ -13,7 +13,8 @@ use Rattle.std.proofs.lemmas.List.Sums.{AllPass-from_list_all}
 use Rattle.std.proofs.lemmas.List.Elements.{All-tail}
 use Rattle.std.proofs.lemmas.List.FromFn.{length-enumerate_from, get_or-enumerate_from}
 use Rattle.std.proofs.lemmas.List.Sorted.{ranks_by, All-permutation}
-use Rattle.std.proofs.lemmas.Option.{slice_get-get_or}
+use Rattle.std.proofs.lemmas.Bool.{and_from, lt-ltb}
+use Rattle.std.proofs.lemmas.Option.{slice_get-get_or, slice_get_within}
 use Rattle.ifs_interface.specs.declared.row.DynRow.{DynRow}
 use Rattle.ifs_interface.specs.Triple.{same_name}
 use Rattle.ifs_interface.specs.Interface.{comes_before}
@@ -21,7 +22,7 @@ use Rattle.ifs_interface.specs.Extracted.{rows_named}
 use Rattle.elf_dyn.specs.declared.ranked.Ranked.{Ranked}
 use Rattle.elf_dyn.specs.Rank.{are_bytes, rank}
 use Rattle.elf_dyn.specs.Ranked.{placed}
-use Rattle.elf_dyn.specs.ByName.{rows_at, AreInNameOrder, IsSortedByName}
+use Rattle.elf_dyn.specs.ByName.{are_places, rows_at, AreInNameOrder, IsSortedByName}
 use Rattle.ifs_interface.proofs.Names.{same_name-is}
 use Rattle.ifs_interface.proofs.NameOrder.{compared, equal_ties}
 use Rattle.ifs_interface.proofs.Lists.{filter_map_of, map_map}
@@ -149,6 +150,16 @@ rows_of_places rows [] all = refl
 rows_of_places rows (x ∷ xs) all =
     ap (λ o. cons_option o (rows_at rows (map (λ r. r.place) xs))) (all 0 x (omega arith))
     ∙ ap (λ ys. row_of x ∷ ys) (rows_of_places rows xs (All-tail (IsPlaced rows) x xs all))
+
+inside : (rows : List DynRow) (xs : List Ranked) → All (IsPlaced rows) xs → are_places rows (map (λ r. r.place) xs) ≡ true
+inside rows [] all = refl
+inside rows (x ∷ xs) all =
+    and_from _ _ (lt-ltb x.place (length rows) (slice_get_within rows x.place x.row.now (all 0 x (omega arith))))
+    (inside rows xs (All-tail (IsPlaced rows) x xs all))
+
+pub places_by_rank : (rows : List DynRow) (old new : List Ranked) → map placed old ≡ enumerate_from 0 rows → IsPermutation old new → are_places rows (map (λ r. r.place) new) ≡ true
+places_by_rank rows old new numbered moved =
+    inside rows new (All-permutation (IsPlaced rows) old new moved (all_placed rows old numbered))
 
 pub placed_by_rank : (rows : List DynRow) (old new : List Ranked) → map placed old ≡ enumerate_from 0 rows → IsPermutation old new → rows_at rows (map (λ r. r.place) new) ≡ map row_of new
 placed_by_rank rows old new numbered moved =

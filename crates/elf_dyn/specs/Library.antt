@@ -1,5 +1,5 @@
 -- A library by the bytes of its file, or the first cause why it can't be read.
-use Rattle.std.specs.Prelude.{ℕ, ◌+◌, ◌==◌, nat_le, List, Option, Some, None, Result, Ok}
+use Rattle.std.specs.Prelude.{◌≡◌, ℕ, true, ◌+◌, ◌==◌, nat_le, List, Option, Some, None, Result, Ok}
 use Rattle.ifs_bytes.specs.Outcome.{◌>>=◌, check}
 use Rattle.elf_file.specs.Header.{header_of}
 use Rattle.elf_file.specs.declared.cause.ElfCause.{ElfCause}
@@ -14,6 +14,7 @@ use Rattle.elf_dyn.specs.Segments.{places_by_segments}
 use Rattle.elf_dyn.specs.Entries as entries
 use Rattle.elf_dyn.specs.Entries.{EntriesLie, entry_count, bad_entry, soname_of, needed_of, needed_bytes, needed_count, defines_versions}
 use Rattle.ifs_bytes.specs.Carried.{carried}
+use Rattle.elf_dyn.specs.Rank.{are_bytes}
 use Rattle.elf_dyn.specs.Rows as rows
 use Rattle.elf_dyn.specs.Rows.{RowsLie, candidate_count, bad_row, candidate_bytes, visible_rows}
 use Rattle.elf_dyn.specs.Strings.{StringsLie, bytes_of}
@@ -71,3 +72,9 @@ library_of file = do
   p ← places_of file h
   _ ← checked file p (entry_count file p.entries)
   Ok (library_at file h p (entry_count file p.entries))
+
+-- the library is that of a file
+pub record IsRead (l : LibraryRecord) : Type 0 where
+  pub file : List ℕ
+  pub bytes : are_bytes file ≡ true
+  pub is_its : library_of file ≡ Ok l

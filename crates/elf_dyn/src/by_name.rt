@@ -4,7 +4,7 @@ ghost use Rattle.std.specs.Prelude.{◌≡◌, true, filter, slice_get, option_a
 ghost use Rattle.std.specs.List.{find};
 ghost use Rattle.std.specs.Option.{option_copied};
 ghost use Rattle.ifs_interface.specs.Triple.{same_name};
-ghost use Rattle.elf_dyn.specs.ByName.{are_places, rows_at, AreInNameOrder, IsSortedByName};
+ghost use Rattle.elf_dyn.specs.ByName.{are_places, rows_at, AreInNameOrder, IsIndex};
 ghost use Rattle.elf_dyn.specs.Found.{comes_before_at, is_defined_at, if_named};
 
 use crate::ranked::{compare, usual_front, with_ranks};
@@ -12,9 +12,9 @@ use ifs_bytes::Memory;
 use ifs_interface::DynRow;
 use std::alloc::Global;
 
-/// The places of the rows in byte order of their names, those of one name in the order that they have.
+/// The places of all rows in byte order of their names, those of one name in the order that they have.
 pub fn places_by_name(alloc: Global, rows: &[DynRow]) -> Result<Vec<usize>, Memory>
-    ensures { IfOk result (λ places. IsSortedByName rows.now (rows_at rows.now places.items)) }
+    ensures { IfOk result (λ places. IsIndex rows.now rows.now places.items) }
 {
     let mut sorted = with_ranks(alloc, usual_front(rows), rows)?;
     sorted.sort_by(|a, b| compare(a, b))?;

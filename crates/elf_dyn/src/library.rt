@@ -1,12 +1,12 @@
 //! A shared library.
 
-ghost use Rattle.std.specs.Prelude.{◌≡◌, ◌<◌, ◌≤◌, IfOk, Result};
+ghost use Rattle.std.specs.Prelude.{◌≡◌, ◌<◌, ◌≤◌, IfOk, Ok, Result};
 ghost use Rattle.std.specs.Option.{option_copied};
 ghost use Rattle.ifs_bytes.specs.Outcome.{UnlessMemory};
 ghost use Rattle.ifs_interface.specs.Library.{HasProperNames};
-ghost use Rattle.elf_dyn.specs.ByName.{rows_at, IsSortedByName};
+ghost use Rattle.elf_dyn.specs.ByName.{IsIndex};
 ghost use Rattle.elf_dyn.specs.Entries.{entry_count};
-ghost use Rattle.elf_dyn.specs.Library.{PlacesLie, places_of, listed_count, name_bytes, checked, library_at, library_of};
+ghost use Rattle.elf_dyn.specs.Library.{IsRead, PlacesLie, places_of, listed_count, name_bytes, checked, library_at, library_of};
 
 use crate::by_name::{defined_places, places_by_name};
 use crate::constants::{DT_VERDEF, ET_DYN, MOST_NAME_BYTES, MOST_ROWS, SHT_DYNAMIC, SHT_DYNSYM};
@@ -43,13 +43,14 @@ impl Model for Library {
     ghost use Rattle.ifs_interface.specs.Library.{LibraryRecord, HasProperNames};
     ghost use Rattle.std.specs.Prelude.{filter};
     ghost use Rattle.ifs_interface.specs.Extracted.{is_defined};
-    ghost use Rattle.elf_dyn.specs.ByName.{rows_at, IsSortedByName, IsIndex};
+    ghost use Rattle.elf_dyn.specs.ByName.{IsIndex};
+    ghost use Rattle.elf_dyn.specs.Library.{IsRead};
 
     ghost Value = { LibraryRecord };
 
     ghost view = { λ l. record { machine = l.machine; order = l.order; width = l.width; soname = l.soname; needed = l.needed; rows = l.rows; versioned = l.versioned } };
 
-    ghost invariant = { λ l. HasProperNames (record { machine = l.machine; order = l.order; width = l.width; soname = l.soname; needed = l.needed; rows = l.rows; versioned = l.versioned }) × IsSortedByName l.rows (rows_at l.rows l.by_name) × IsIndex l.rows (filter is_defined l.rows) l.defined };
+    ghost invariant = { λ l. IsRead (record { machine = l.machine; order = l.order; width = l.width; soname = l.soname; needed = l.needed; rows = l.rows; versioned = l.versioned }) × HasProperNames (record { machine = l.machine; order = l.order; width = l.width; soname = l.soname; needed = l.needed; rows = l.rows; versioned = l.versioned }) × IsIndex l.rows l.rows l.by_name × IsIndex l.rows (filter is_defined l.rows) l.defined };
 }
 
 impl Library {
@@ -112,13 +113,14 @@ impl Library {
     pub fn rows(&self) -> &[DynRow]
         ensures rows { result.now ≡ self.now.rows }
         ensures names { HasProperNames self.now }
+        ensures read { IsRead self.now }
     {
         self.rows.as_slice()
     }
 
     /// The places of its rows in byte order of their names, those of one name in the order of its symbol table.
     pub fn by_name(&self) -> &[usize]
-        ensures { IsSortedByName self.now.rows (rows_at self.now.rows result.now) }
+        ensures { IsIndex self.now.rows self.now.rows result.now }
     {
         self.by_name.as_slice()
     }
@@ -257,6 +259,7 @@ fn read(
 ) -> Result<Library, Memory>
     requires lie { PlacesLie bytes.now places.now }
     requires within { count ≤ places.now.entries.room }
+    requires read { library_of bytes.now ≡ Ok (library_at bytes.now header.now places.now count) }
     ensures { IfOk result (λ library. library ≡ library_at bytes.now header.now places.now count) }
 {
     let entries = places.entries;

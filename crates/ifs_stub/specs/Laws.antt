@@ -1,5 +1,5 @@
 -- What holds of each stub file.
-use Rattle.std.specs.Prelude.{◌≡◌, ℕ, ◌+◌, ◌-◌, ◌*◌, ◌<◌, ◌^◌, Bool, true, List, length, nat_lt, replicate, unwrap_or, Result, Ok}
+use Rattle.std.specs.Prelude.{◌≡◌, ℕ, ◌+◌, ◌-◌, ◌*◌, ◌<◌, ◌^◌, Bool, true, false, List, length, nat_lt, replicate, unwrap_or, Result, Ok}
 use Rattle.std.specs.List.{list_all, slice_range}
 use Rattle.ifs_bytes.specs.Field.{word_size}
 use Rattle.ifs_bytes.specs.Outcome.{◌>>=◌}
@@ -67,6 +67,13 @@ pub record HasStub (i : InterfaceRecord) (form : Form) : Type 0 where
 abbrev pub StubsAreRead : Type 0
 StubsAreRead =
     (i : InterfaceRecord) (form : Form) → HasStub i form → library_of (stub_file form.order form.width form.machine i) ≡ Ok (stub_library i form)
+
+-- the file is read as the library that the stub of the interface stands for, which has no versions
+pub record IsStubOf (i : InterfaceRecord) (file : List ℕ) : Type 0 where
+  pub form : Form
+  pub formed : form_of (parts_of i.target) ≡ Ok form
+  pub read : library_of file ≡ Ok (stub_library i form)
+  pub unversioned : (stub_library i form).versioned ≡ false
 
 -- the interface of that library is the one that the stub was made from, but for what a stub has no place for
 abbrev pub StubsKeepInterfaces : Type 0

@@ -3,7 +3,7 @@
 ghost use Rattle.std.specs.Prelude.{◌≡◌, ◌+◌, ◌<◌, ◌≤◌, ◌++◌, length, Ok, IfOk, OnOk};
 ghost use Rattle.ifs_stub.specs.Forget.{forget};
 ghost use Rattle.ifs_interface.specs.Facts.{facts_of_interface};
-ghost use Rattle.ifs_stub.specs.Laws.{interface_in, facts_in};
+ghost use Rattle.ifs_stub.specs.Laws.{IsStubOf, interface_in, facts_in};
 ghost use Rattle.ifs_bytes.specs.Outcome.{UnlessMemory};
 ghost use Rattle.ifs_stub.specs.StubFile.{needed_name_bytes, file_by, stub_file};
 ghost use Rattle.ifs_stub.specs.Stub.{HasNoWideSize, IsWithin, stub_of, bytes_of};
@@ -63,12 +63,13 @@ fn file_of(alloc: Global, interface: &Interface, form: Form) -> Result<Vec<u8>, 
 /// first of machine, width and order that the target doesn't give; `SizeTooWide` of the first symbol whose
 /// size is 2^32 or more at a width of 32 bits; `TooManySymbols` above 1,000,000 symbols and needed libraries;
 /// and `NamesTooLarge` where the names have more than 33,554,432 bytes together. The file has less than
-/// 75,497,472 bytes. Read back it has this interface, but for what it has no place for: an unknown type is no type,
+/// 75,497,472 bytes. It is read as a library without versions, which has this interface, but for what it has no place for: an unknown type is no type,
 /// an absent size is 0, and warnings and the name of the triple are gone. It has the facts of the interface.
 #[tactic(auto, unfolding(crate::specs::Stub::stub_of))]
 pub fn emit(alloc: Global, interface: &Interface) -> Result<Vec<u8>, StubCause>
     ensures exact { UnlessMemory StubCause.Memory (bytes_of result) (stub_of interface.now) }
     ensures small { IfOk result (λ out. length out.items < 75497472) }
+    ensures library { IfOk result (λ out. IsStubOf interface.now out.items) }
     ensures read_back { IfOk result (λ out. interface_in out.items ≡ Ok (forget interface.now)) }
     ensures facts { IfOk result (λ out. facts_in out.items ≡ Ok (facts_of_interface interface.now)) }
 {

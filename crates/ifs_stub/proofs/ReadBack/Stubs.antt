@@ -15,9 +15,11 @@ use Rattle.ifs_interface.specs.Parts.{parts_of}
 use Rattle.ifs_interface.specs.declared.symbol.Symbol.{Symbol}
 use Rattle.ifs_interface.specs.declared.target.Target.{Target}
 use Rattle.ifs_stub.specs.Forget.{forget}
-use Rattle.ifs_stub.specs.Laws.{HasNumbers, HasStub, size_fits, interface_in, facts_in}
+use Rattle.ifs_stub.specs.Laws.{HasNumbers, HasStub, IsStubOf, size_fits, interface_in, facts_in}
 use Rattle.ifs_stub.specs.Stub.{IsWithin, form_of, is_too_wide, unless_too_wide, sizes_checked, limits_checked, name_count, name_bytes, stub_of}
 use Rattle.ifs_stub.specs.StubFile.{stub_file}
+use Rattle.ifs_stub.specs.StubLibrary.{stub_library}
+use Rattle.elf_dyn.specs.Library.{library_of}
 use Rattle.ifs_stub.specs.declared.cause.StubCause.TheVariants.{TooManySymbols, NamesTooLarge}
 use Rattle.elf_dyn.specs.declared.constants.TheConstants.{MOST_ROWS, MOST_NAME_BYTES}
 use Rattle.ifs_stub.specs.declared.layout.Form.{Form}
@@ -92,6 +94,15 @@ pub written_is_read_back : (i : InterfaceRecord) (form : Form) (bytes : List ℕ
 written_is_read_back i form bytes has formed is =
     ap interface_in is ∙ ap (λ r. r >>= λ library. Ok (interface_of library)) (stubs_are_read i form has)
     ∙ ap (λ j. Ok j) (stubs_keep_interfaces i form has.interface formed)
+
+pub written_is_a_library : (i : InterfaceRecord) (form : Form) (bytes : List ℕ) → HasStub i form → form_of (parts_of i.target) ≡ Ok form → bytes ≡ stub_file form.order form.width form.machine i → IsStubOf i bytes
+unfolding stub_library
+written_is_a_library i form bytes has formed is = record {
+  form = form;
+  formed = formed;
+  read = ap library_of is ∙ stubs_are_read i form has;
+  unversioned = refl;
+}
 
 pub written_has_the_facts : (i : InterfaceRecord) (form : Form) (bytes : List ℕ) → HasStub i form → form_of (parts_of i.target) ≡ Ok form → bytes ≡ stub_file form.order form.width form.machine i → facts_in bytes ≡ Ok (facts_of_interface i)
 written_has_the_facts i form bytes has formed is =

@@ -2,8 +2,8 @@ use Rattle.std.proofs.Common.{◌≡◌, map, sym, ap, ◌∙◌, subst, refl, r
 use Rattle.std.proofs.lemmas.Iterator.{YieldsList-from_slice, YieldsList-from_map, items_from_drains}
 use Rattle.std.proofs.lemmas.List.Sorted.{answers_always}
 use Rattle.ifs_interface.proofs.Lists.{map_itself}
-use Rattle.elf_dyn.specs.ByName.{rows_at, IsSortedByName}
-use Rattle.elf_dyn.proofs.RankedOrder.{before, before_ranks, sorted_by_rank, placed_by_rank}
+use Rattle.elf_dyn.specs.ByName.{are_places, rows_at, IsSortedByName}
+use Rattle.elf_dyn.proofs.RankedOrder.{before, before_ranks, sorted_by_rank, places_by_rank, placed_by_rank}
 use Rattle.elf_dyn.proofs.by_name.places_by_name.Goals as goal
 
 pub returns : goal.returns
@@ -18,4 +18,7 @@ returns c =
     let sorted = sorted_by_rank front rows old new c.in_ok-sorted.ensures.rows c.in_ok-sorted.ensures.ranks c.in_ok-sorted.ensures.bytes c.sort_by.ensures.permutation
     (c.in_ok-sort_by.ensures.sorted before before_ranks (answers_always _ _ _ (λ f a r g h. search rules)))
     (c.sort_by.ensures.stable before before_ranks (answers_always _ _ _ (λ f a r g h. search rules))) in
-    subst (IsSortedByName rows) (sym (ap (rows_at rows) places ∙ placed_by_rank rows old new c.in_ok-sorted.ensures.places c.sort_by.ensures.permutation)) sorted
+    record {
+      are_places = ap (are_places rows) places ∙ places_by_rank rows old new c.in_ok-sorted.ensures.places c.sort_by.ensures.permutation;
+      sorted = subst (IsSortedByName rows) (sym (ap (rows_at rows) places ∙ placed_by_rank rows old new c.in_ok-sorted.ensures.places c.sort_by.ensures.permutation)) sorted;
+    }
