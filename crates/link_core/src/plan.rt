@@ -4,7 +4,7 @@ use crate::refusal::At;
 use ifs_bytes::List;
 
 /// What a slot of .got is for.
-#[derive(Clone, Copy, Debug, PartialEq, Eq)]
+#[derive(Clone, Copy, Debug, PartialEq, Eq, Hash)]
 pub enum Slot {
     /// An address: one slot.
     Got,
@@ -19,7 +19,7 @@ pub enum Slot {
 }
 
 /// A symbol of a link.
-#[derive(Clone, Copy, Debug, PartialEq, Eq)]
+#[derive(Clone, Copy, Debug, PartialEq, Eq, Hash)]
 pub enum SymbolId {
     /// The name at this position of the resolution's names.
     Name(u64),
@@ -31,7 +31,7 @@ pub enum SymbolId {
 }
 
 /// A slot of .got, or a pair of slots.
-#[derive(Clone, Copy, Debug, PartialEq, Eq)]
+#[derive(Clone, Copy, Debug, PartialEq, Eq, Hash)]
 pub struct GotSlot {
     /// Whose it is.
     pub symbol: SymbolId,
