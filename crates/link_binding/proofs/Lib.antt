@@ -1,0 +1,4 @@
+pub mod Libraries
+pub mod Choice
+pub mod Spoken
+pub mod Wanting

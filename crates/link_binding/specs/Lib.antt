@@ -1,0 +1,4 @@
+pub mod Libraries
+pub mod Bind
+pub mod WantedNames
+pub mod Row
