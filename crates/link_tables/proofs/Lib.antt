@@ -1,0 +1,7 @@
+pub mod Counted
+pub mod Ends
+pub mod EntryCount
+pub mod Multiples
+pub mod NameSizes
+pub mod Shown
+pub mod SlotSizes

@@ -1,0 +1,6 @@
+pub mod Capped
+pub mod States
+pub mod Fills
+pub mod Names
+pub mod Counts
+pub mod Sections

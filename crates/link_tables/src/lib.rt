@@ -1,0 +1,23 @@
+//! The tables of an image and their sizes, which follow from names and needs alone.
+//!
+//! `count_all` counts rows, strings, relocations, words and entries, and `read_tables`, `code_tables` and `written_tables` make
+//! the sections of them, in the order of the image. `aligned` and `ends_at` put sections one after the other at multiples of
+//! their alignments. Numbers have 128 bits and stop at 2^128 - 1, so that nothing wraps before the limits of an image are
+//! known to be kept.
+#![tactic(auto)]
+
+mod counts;
+mod fills;
+mod names;
+mod places;
+mod section;
+mod state;
+mod tables;
+
+pub use counts::{Counts, Present, count_all};
+pub use places::{aligned, ends_at};
+pub use section::Section;
+pub use tables::{code_tables, read_tables, written_tables};
+
+#[cfg(test)]
+mod tests;
