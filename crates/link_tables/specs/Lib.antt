@@ -1,5 +1,6 @@
 pub mod Capped
 pub mod States
+pub mod Filled
 pub mod Fills
 pub mod Names
 pub mod Counts

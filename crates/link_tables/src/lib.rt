@@ -9,12 +9,14 @@
 mod counts;
 mod fills;
 mod names;
+mod output;
 mod places;
 mod section;
 mod state;
 mod tables;
 
 pub use counts::{Counts, Present, count_all};
+pub use output::{FilledOutput, Item, Thing};
 pub use places::{aligned, ends_at};
 pub use section::Section;
 pub use tables::{code_tables, read_tables, written_tables};
