@@ -1,0 +1,3 @@
+pub mod FirstRefused
+pub mod Bounds
+pub mod ObjectsPass
