@@ -1,5 +1,5 @@
 -- The sections of the image, segment by segment, by the counts of the tables and by the output sections.
-use Rattle.std.specs.Prelude.{List, filter, map, ◌++◌}
+use Rattle.std.specs.Prelude.{List, filter, length, map, ◌++◌}
 use Rattle.link_core.specs.declared.output.OutClass.{OutClass}
 use Rattle.link_core.specs.declared.output.OutClass.TheVariants as classes
 use Rattle.link_core.specs.Aligned.{end_from, greatest_align}
@@ -33,4 +33,8 @@ segments_of n outputs = record {
   thread = sections_in classes.T outputs;
   zeros = sections_in classes.Z outputs;
   written = written_tables n ++ sections_in classes.W outputs ++ sections_in classes.B outputs;
+  read_tables = length (read_tables n);
+  code_tables = length (code_tables n);
+  written_tables = length (written_tables n);
+  first_zeros = length (written_tables n ++ sections_in classes.W outputs);
 }

@@ -27,6 +27,14 @@ pub struct Segments {
     pub zeros: List<Section>,
     /// What is written.
     pub written: List<Section>,
+    /// How many sections of `read` are tables, which come first.
+    pub read_tables: usize,
+    /// How many of `code`.
+    pub code_tables: usize,
+    /// How many of `written`.
+    pub written_tables: usize,
+    /// The position in `written` of the first section of zeros.
+    pub first_zeros: usize,
 }
 
 /// What is only read.
@@ -146,15 +154,19 @@ pub fn make_segments(
     ensures { IfOk result (λ segments. segments ≡ meant.segments_of n.now outputs.now) }
 {
     let mut read = read_tables(alloc, n)?;
+    let read_count = read.len();
     push_sections(alloc, &mut read, outputs, OutClass::R)?;
     let mut code = code_tables(alloc, n)?;
+    let code_count = code.len();
     push_sections(alloc, &mut code, outputs, OutClass::X)?;
     let mut thread = Vec::new(alloc);
     push_sections(alloc, &mut thread, outputs, OutClass::T)?;
     let mut zeros = Vec::new(alloc);
     push_sections(alloc, &mut zeros, outputs, OutClass::Z)?;
     let mut written = written_tables(alloc, n)?;
+    let written_count = written.len();
     push_sections(alloc, &mut written, outputs, OutClass::W)?;
+    let first_zeros = written.len();
     push_sections(alloc, &mut written, outputs, OutClass::B)?;
     Ok(Segments {
         read: List::from_vec(read),
@@ -162,5 +174,9 @@ pub fn make_segments(
         thread: List::from_vec(thread),
         zeros: List::from_vec(zeros),
         written: List::from_vec(written),
+        read_tables: read_count,
+        code_tables: code_count,
+        written_tables: written_count,
+        first_zeros,
     })
 }
