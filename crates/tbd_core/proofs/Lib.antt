@@ -1,2 +1,4 @@
 mod Proper
 mod Ascending
+mod Runs
+mod Sorting

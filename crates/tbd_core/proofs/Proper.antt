@@ -1,5 +1,5 @@
 -- The test of a name.
-use Rattle.std.proofs.Common.{◌≡◌, ℕ, ◌<◌, ◌==◌, Bool, true, false, not, ◌||◌, ◌&&◌, length, arith, List, [], ◌∷◌, refl}
+use Rattle.std.proofs.Common.{◌≡◌, ℕ, ◌<◌, ◌==◌, true, false, not, ◌||◌, ◌&&◌, length, arith, List, [], ◌∷◌, refl}
 use Rattle.std.specs.List.{list_all, list_any}
 use Rattle.ifs_interface.specs.Interface.{is_proper_name}
 

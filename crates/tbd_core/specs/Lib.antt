@@ -4,3 +4,6 @@ pub mod Normal
 pub mod Places
 pub mod Cause
 pub mod Fault
+pub mod Groups
+pub mod Union
+pub mod Converted

@@ -1,5 +1,5 @@
 -- Versions of libraries as text: `X`, `X.Y` or `X.Y.Z`, X below 65536, Y and Z below 256.
-use Rattle.std.specs.Prelude.{ℕ, ◌+◌, ◌^◌, Bool, not, ◌&&◌, ◌||◌, ◌==◌, nat_lt, List, [], ◌∷◌, ◌++◌, take, drop, position, Option, Some, None, option_map, option_and_then, if◌then◌else◌, codes, decimal}
+use Rattle.std.specs.Prelude.{ℕ, ◌+◌, ◌^◌, Bool, not, ◌&&◌, ◌||◌, ◌==◌, nat_lt, List, [], ◌++◌, take, drop, position, Option, Some, None, option_map, option_and_then, if◌then◌else◌, codes, decimal}
 use Rattle.ifs_bytes.specs.Numeral.{numeral, in_64_bits}
 use Rattle.tbd_core.specs.declared.version.Version.{Version}
 
