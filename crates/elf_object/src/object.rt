@@ -63,6 +63,14 @@ impl Object {
         })
     }
 
+    /// Does nothing, and is there for its clause: the object is the one of its own bytes, which have room for the
+    /// tables of its sections and of its symbols.
+    pub fn is_read(&self)
+        ensures { meant.IsRead self.now }
+    {
+        let _ = &self.bytes;
+    }
+
     /// The machine that it is for, e_machine.
     pub fn machine(&self) -> u16
         ensures { result ≡ self.now.machine }
