@@ -1,5 +1,5 @@
 -- Slots are the same as their derived comparison says.
-use Rattle.std.proofs.Common.{◌≡◌, ℕ, Bool, true, false, ◌&&◌, ◌||◌, if◌then◌else◌, List, [], ◌∷◌, ◌++◌, refl, sym, ap, ◌∙◌}
+use Rattle.std.proofs.Common.{◌≡◌, Bool, ◌&&◌, ◌||◌, if◌then◌else◌, List, [], ◌∷◌, ◌++◌, refl, ap, ◌∙◌}
 use Rattle.std.specs.List.{list_any}
 use Rattle.link_core.specs.contracts.plan.GotSlotPartialEq.TheImpl.{eq-value}
 use Rattle.link_core.specs.contracts.plan.SymbolIdPartialEq.TheImpl.{eq-value as symbol_eq}

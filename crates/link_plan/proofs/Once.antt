@@ -6,7 +6,7 @@ use Rattle.std.specs.Option.{option_to_list}
 use Rattle.std.specs.Cmp.{IsEquivalence}
 use Rattle.link_core.specs.Lists.{once}
 use Rattle.link_needs.specs.Needs.{put}
-use Rattle.link_plan.proofs.Pairs.{any_last, or_none}
+use Rattle.link_plan.proofs.Pairs.{any_last}
 
 -- ---- filters
 

@@ -1,8 +1,8 @@
 -- Passes over references, turn by turn.
-use Rattle.std.proofs.Common.{◌≡◌, ℕ, suc, ◌+◌, ◌<◌, ◌≤◌, Bool, true, false, if◌then◌else◌, List, [], ◌∷◌, ◌++◌, length, drop, get_or, map, filter, Option, Some, None, Result, Ok, Err, refl, sym, ap, ◌∙◌, subst, inl, inr, arith}
-use Rattle.std.specs.Prelude.{◌⊎◌, fold, pos}
+use Rattle.std.proofs.Common.{◌≡◌, ℕ, ◌+◌, ◌<◌, ◌≤◌, Bool, if◌then◌else◌, List, length, drop, get_or, Option, Result, Ok, Err, refl, sym, ap, ◌∙◌, subst, inl, inr}
+use Rattle.std.specs.Prelude.{pos}
 use Rattle.std.proofs.lemmas.List.{at_drop_more, drop_all}
-use Rattle.std.specs.List.{enumerate_from, flat_map}
+use Rattle.std.specs.List.{enumerate_from}
 use Rattle.ifs_bytes.specs.Outcome.{◌>>=◌, UnlessMemory}
 use Rattle.elf_object.specs.declared.reference.Reference.{Reference}
 use Rattle.elf_object.specs.Record.{ObjectRecord}
@@ -11,8 +11,8 @@ use Rattle.link_core.specs.declared.refusal.LinkRefusal.{LinkRefusal}
 use Rattle.link_core.specs.declared.refusal.LinkStop.{LinkStop}
 use Rattle.link_core.specs.declared.refusal.LinkStop.TheVariants as stops
 use Rattle.link_core.specs.Kept.{is_kept}
-use Rattle.link_core.specs.Plan.{Needed, needed_by, supported, need_at}
-use Rattle.link_core.specs.References.{Use, Target, target_of}
+use Rattle.link_core.specs.Plan.{Needed, needed_by}
+use Rattle.link_core.specs.References.{Use, target_of}
 use Rattle.link_targets.specs.declared.target.Target.{Target as Code}
 use Rattle.link_targets.specs.Targets.{target_at}
 use Rattle.link_needs.specs.Needs.{Lists, stopped, needed_with, after}

@@ -1,5 +1,5 @@
 -- Slots and symbols are the same exactly where they are equal.
-use Rattle.std.proofs.Common.{◌≡◌, ℕ, ◌==◌, Bool, true, false, ◌&&◌, refl, sym, ap, ◌∙◌, subst}
+use Rattle.std.proofs.Common.{◌≡◌, ℕ, ◌==◌, true, refl, ap, ◌∙◌, subst}
 use Rattle.std.specs.Cmp.{IsEquivalence, decided, unsigned_Decides}
 use Rattle.std.proofs.lemmas.Bool.{false≢true, and_parts, and_from}
 use Rattle.link_core.specs.declared.plan.GotSlot.{GotSlot}

@@ -1,5 +1,5 @@
 -- The pass over all objects gives the plan.
-use Rattle.std.proofs.Common.{◌≡◌, ℕ, ◌+◌, ◌==◌, Bool, true, false, if◌then◌else◌, cond, List, [], ◌∷◌, ◌++◌, map, filter, filter_map, Option, Some, None, Result, Ok, Err, refl, sym, ap, ◌∙◌, subst, inr}
+use Rattle.std.proofs.Common.{◌≡◌, ℕ, ◌==◌, Bool, true, false, if◌then◌else◌, cond, List, [], ◌∷◌, ◌++◌, map, filter, Result, Ok, Err, refl, sym, ap, ◌∙◌, subst, inr}
 use Rattle.std.specs.Prelude.{fold}
 use Rattle.std.specs.List.{enumerate_from, flat_map}
 use Rattle.std.specs.Option.{option_to_list}
@@ -14,7 +14,6 @@ use Rattle.link_core.specs.declared.plan.Plan.{Plan}
 use Rattle.link_core.specs.declared.refusal.LinkRefusal.{LinkRefusal}
 use Rattle.link_core.specs.declared.refusal.LinkStop.{LinkStop}
 use Rattle.link_core.specs.declared.refusal.LinkStop.TheVariants as stops
-use Rattle.link_core.specs.declared.resolution.Resolution.{Resolution}
 use Rattle.link_core.specs.Kept.{is_kept}
 use Rattle.link_core.specs.Lists.{each_ok}
 use Rattle.link_core.specs.Plan.{Needed, needed_by, planned, plan_of, same_slot, slots_of, entries_of, moves_of, slot_for, entry_for, move_for}

@@ -1,5 +1,5 @@
 -- What a plan is made from.
-use Rattle.std.specs.Prelude.{ℕ, ◌<◌, ◌≤◌, ◌^◌, List, length, All}
+use Rattle.std.specs.Prelude.{◌<◌, ◌≤◌, ◌^◌, List, length, All}
 use Rattle.elf_object.specs.Record.{ObjectRecord}
 use Rattle.link_core.specs.declared.options.LinkOptions.{LinkOptions}
 use Rattle.link_core.specs.declared.resolution.Resolution.{Resolution}

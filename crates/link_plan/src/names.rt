@@ -29,7 +29,8 @@ fn push_if(list: &mut Vec<u64>, passed: bool, i: usize) -> Result<(), Memory>
 
 /// The positions of the names that the made file wants from elsewhere.
 pub fn imports_of(alloc: Global, names: &[NameRow]) -> Result<Vec<u64>, Memory>
-    ensures { IfOk result (λ list. list.items ≡ meant.positions (λ row. meant.is_import row.bound) names.now) }
+    ensures { IfOk result (λ list. list.items
+        ≡ meant.positions (λ row. meant.is_import row.bound) names.now) }
 {
     let mut list = Vec::new(alloc);
     for i in 0..names.len() {

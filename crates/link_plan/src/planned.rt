@@ -30,11 +30,10 @@ fn plan_with(alloc: Global, names: &Resolution, lists: &Lists) -> Result<Plan, M
     })
 }
 
-/// What the references of the kept sections of these objects need, where `names` is what their names stand for
-/// under the same options. Where references can't have what they need, or a reference can't be taken, the first
-/// such reference, by object, section and index, gives the refusal: Unsupported, Discarded, TlsMismatch,
-/// TextRelocation, NotPic, CopyRelocation or CanonicalPlt. There are at most 4,096 objects, each of fewer than 2^32
-/// bytes.
+/// What the references of the kept sections of these objects need, where `names` is what their names stand
+/// for under the same options. The first reference, by object, section and index, that can't be taken or
+/// can't have what it needs gives the refusal: Unsupported, Discarded, TlsMismatch, TextRelocation, NotPic,
+/// CopyRelocation or CanonicalPlt. There are at most 4,096 objects, each of fewer than 2^32 bytes.
 pub fn plan<M: Machine>(
     alloc: Global,
     machine: &M,

@@ -1,4 +1,3 @@
-use Rattle.link_core.specs.declared.resolution.Member.{Member}
 use Rattle.link_plan.proofs.Pairs.{dropped_more}
 use Rattle.link_plan.proofs.kept.dropped_set.Goals as goal
 

@@ -1,4 +1,3 @@
-use Rattle.std.proofs.Common.{◌≡◌}
 use Rattle.link_plan.proofs.Pairs.{AreDroppedFrom}
 use Rattle.link_plan.proofs.kept.dropped_set.Given as goal
 

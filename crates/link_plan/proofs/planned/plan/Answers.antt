@@ -1,5 +1,3 @@
-use Rattle.std.proofs.Common.{◌∙◌, ap, sym, inr}
-use Rattle.std.specs.Prelude.{Ok}
 use Rattle.std.proofs.lemmas.Result.{err_from_is_err_and}
 use Rattle.link_plan.proofs.Passes.{handed}
 use Rattle.link_plan.proofs.Whole.{plan_ends, plan_done}

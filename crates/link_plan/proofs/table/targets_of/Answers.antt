@@ -1,4 +1,4 @@
-use Rattle.std.proofs.Common.{◌∙◌, ap, length, arith, ◌≡◌}
+use Rattle.std.proofs.Common.{ap, length, arith, ◌≡◌}
 use Rattle.link_plan.proofs.Tables.{whole_table}
 use Rattle.link_plan.proofs.table.targets_of.Goals as goal
 
