@@ -1,0 +1,11 @@
+pub mod Ends
+pub mod Segments
+pub mod Starts
+pub mod Sections
+pub mod Small
+pub mod Found
+pub mod Positions
+pub mod Pieces
+pub mod Whole
+pub mod Present
+pub mod Placed

@@ -1,0 +1,9 @@
+//! Where everything of the made file stands.
+//!
+//! `lay_out_by` counts the tables of a link, makes its layout by these counts and its output sections, and so gives exactly
+//! the layout that the link has, or the first limit that it doesn't keep.
+#![tactic(auto)]
+
+mod layout;
+
+pub use layout::lay_out_by;
