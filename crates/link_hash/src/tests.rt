@@ -1,7 +1,7 @@
 //! Hashes that other tools give, and that the table of a few names is made where memory is there.
 
 use crate::hash::hash_of;
-use crate::words::hash_words;
+use crate::words::{hash_words, put_words};
 use ifs_bytes::Memory;
 use std::alloc::Global;
 use std::test::Fail;
@@ -14,6 +14,13 @@ fn hashed(name: &[u8]) -> u32 {
 // The words of the table of `names`.
 fn words_of(alloc: Global, names: &[&[u8]; 3]) -> Result<Vec<u32>, Memory> {
     hash_words(alloc, names)
+}
+
+// The bytes of words.
+fn bytes_of(alloc: Global, words: &[u32]) -> Result<Vec<u8>, Memory> {
+    let mut out = Vec::new(alloc);
+    put_words(&mut out, words)?;
+    Ok(out)
 }
 
 #[test]
@@ -31,5 +38,7 @@ fn three_names_stand_in_their_buckets(rt: HostRuntime) -> Result<(), Fail> {
         &[b"a".as_slice(), b"e".as_slice(), b"b".as_slice()],
     )?;
     assert_eq!(rt; words.as_slice(), [4, 4, 0, 1, 3, 0, 0, 2, 0, 0].as_slice());
+    let bytes = bytes_of(rt.alloc(), &[1, 258])?;
+    assert_eq!(rt; bytes.as_slice(), [1, 0, 0, 0, 2, 1, 0, 0].as_slice());
     Ok(())
 }
