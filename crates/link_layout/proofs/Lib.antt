@@ -9,3 +9,5 @@ pub mod Pieces
 pub mod Whole
 pub mod Present
 pub mod Placed
+pub mod Laid
+pub mod Within

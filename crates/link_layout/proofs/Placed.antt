@@ -56,7 +56,7 @@ five a b c d e = simp append_assoc
 abbrev pub sections_of : Planned → List OutSection
 sections_of j = map section_from (zip (contents_of j) (addresses_of j))
 
-sections_parts :
+pub sections_parts :
     (j : Planned) → sections_of j
     ≡ sections_from (read_start j) (read_contents j)
     ++ sections_from (code_start j) (executed_contents j)

@@ -17,19 +17,19 @@ IsWithin j = nat_le (image_span j) 268435456 ≡ true
 behind : (at : ℕ) (cs : List Content) → at ≤ contents_end at cs
 behind at cs = end_is_behind (λ (c : Content). c.align) (λ (c : Content). c.size) at cs
 
-read_before : (j : Planned) → read_end j ≤ code_start j
+pub read_before : (j : Planned) → read_end j ≤ code_start j
 unfolding code_start
 read_before j = aligned_is_behind j.rules.page (read_end j)
 
-code_before : (j : Planned) → code_start j ≤ code_end j
+pub code_before : (j : Planned) → code_start j ≤ code_end j
 unfolding code_end
 code_before j = behind (code_start j) (executed_contents j)
 
-written_before : (j : Planned) → code_end j ≤ written_start j
+pub written_before : (j : Planned) → code_end j ≤ written_start j
 unfolding written_start
 written_before j = aligned_is_behind j.rules.page (code_end j)
 
-tls_before : (j : Planned) → written_start j ≤ tls_start j
+pub tls_before : (j : Planned) → written_start j ≤ tls_start j
 unfolding tls_start
 tls_before j = aligned_is_behind (tls_align j) (written_start j)
 
@@ -45,13 +45,13 @@ one_of : (b : Bool) (n m k : ℕ) → k ≤ n → k ≤ m → k ≤ (if b then n
 one_of true n m k one other = one
 one_of false n m k one other = other
 
-data_before : (j : Planned) → written_start j ≤ data_start j
+pub data_before : (j : Planned) → written_start j ≤ data_start j
 unfolding data_start
 data_before j =
     one_of (nat_lt 0 (length (thread_contents j))) (tls_file_end j) (written_start j) (written_start j)
     (omega (arith, tls_before j, thread_before j)) (omega arith)
 
-end_before : (j : Planned) → data_start j ≤ written_end j
+pub end_before : (j : Planned) → data_start j ≤ written_end j
 unfolding written_end
 end_before j = behind (data_start j) (written_contents j)
 

@@ -1,9 +1,11 @@
 //! Where everything of the made file stands.
 //!
 //! `lay_out_by` counts the tables of a link, makes its layout by these counts and its output sections, and so gives exactly
-//! the layout that the link has, or the first limit that it doesn't keep.
+//! the layout that the link has, or the first limit that it doesn't keep. Laws say how things stand in each layout.
 #![tactic(auto)]
 
+mod laws;
 mod layout;
 
+pub use laws::{sections_are_the_contents, sections_are_within};
 pub use layout::lay_out_by;
