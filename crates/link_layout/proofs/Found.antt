@@ -48,7 +48,7 @@ at_once false k there = cc
 
 -- ---- output sections of a class
 
-class_is : (a b : OutClass) → same_class a b ≡ true → a ≡ b
+pub class_is : (a b : OutClass) → same_class a b ≡ true → a ≡ b
 class_is classes.R classes.R same = refl
 class_is classes.R classes.X same = cc
 class_is classes.R classes.W same = cc

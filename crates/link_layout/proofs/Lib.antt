@@ -11,3 +11,4 @@ pub mod Present
 pub mod Placed
 pub mod Laid
 pub mod Within
+pub mod Standing

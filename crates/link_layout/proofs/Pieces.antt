@@ -30,12 +30,12 @@ use Rattle.link_layout.proofs.Small.{IsWithin, code_small, data_small, none_firs
 
 -- ---- items of an output section
 
-abbrev piece_from : ℕ → ℕ → Standing × ℕ → Option PieceAt
+abbrev pub piece_from : ℕ → ℕ → Standing × ℕ → Option PieceAt
 piece_from out address (PieceItem piece, place) =
     Some (record { object = piece.object; section = piece.section; out = out; address = address + place })
 piece_from out address (CommonItem n, place) = None
 
-abbrev common_from : ℕ → Standing × ℕ → Option CommonAt
+abbrev pub common_from : ℕ → Standing × ℕ → Option CommonAt
 common_from address (PieceItem piece, place) = None
 common_from address (CommonItem n, place) = Some (record { name = n; address = address + place })
 
@@ -271,7 +271,7 @@ commons_here j o next within is =
     (λ i. commons_from (is.address i) 0 (map (item_of j) (items_of j o)))
     ∙ commons_exact j (output_address j o) 0 (items_of j o) (address_low j o within) is.small
 
-further : (j : Planned) (before rest : List Output) (o : Output) → outputs_by j ≡ before ++ o ∷ rest → outputs_by j ≡ (before ++ o ∷ []) ++ rest
+pub further : (j : Planned) (before rest : List Output) (o : Output) → outputs_by j ≡ before ++ o ∷ rest → outputs_by j ≡ (before ++ o ∷ []) ++ rest
 further j before rest o outputs = outputs ∙ sym (append_assoc before (o ∷ []) rest)
 
 pub pieces_are : (j : Planned) (before rest : List Output) (next : Next) → IsWithin j → IsNamed j → outputs_by j ≡ before ++ rest → Counts j before next → pieces_in (sections_of j) next (map (filled j) rest) ≡ flat_map (pieces_at j) rest

@@ -1,11 +1,17 @@
 -- What holds of each layout.
 use Rattle.std.specs.Prelude.{All, List, Ok, Option, Some, length, slice_get, slice_index, ℕ, ◌+◌, ◌<◌, ◌^◌, ◌≡◌, ◌≤◌}
+use Rattle.link_core.specs.declared.layout.CommonAt.{CommonAt}
 use Rattle.link_core.specs.declared.layout.Layout.{Layout}
 use Rattle.link_core.specs.declared.layout.OutSection.{OutSection}
+use Rattle.link_core.specs.declared.layout.PieceAt.{PieceAt}
 use Rattle.link_core.specs.declared.options.OutKind.{OutKind}
 use Rattle.link_core.specs.declared.tables.TheConstants.{MOST_IMAGE_BYTES}
+use Rattle.link_core.specs.Binding.{common_size}
+use Rattle.link_core.specs.Commons.{bss, mentions_at}
 use Rattle.link_core.specs.Contents.{Content, contents_of}
-use Rattle.link_core.specs.Layout.{addresses_of, base_of, layout_of}
+use Rattle.link_core.specs.Kept.{section_of}
+use Rattle.link_core.specs.Layout.{addresses_of, base_of, layout_of, output_position}
+use Rattle.link_core.specs.OutputNames.{Piece, piece_at}
 use Rattle.link_core.specs.Planned.{Planned}
 
 abbrev pub IsLayoutOf : Planned → Layout → Type 0
@@ -50,3 +56,41 @@ SectionsAreWithin = (j : Planned) (l : Layout) → IsLayoutOf j l → All (IsInI
 -- so no address in an image needs more than 33 bits
 abbrev pub ImagesAreLow : Type 0
 ImagesAreLow = (kind : OutKind) → most_end kind < 2 ^ 33
+
+-- ---- pieces and common symbols stand in their sections
+
+-- so many bytes at an address stand in the section at a position
+pub record StandsIn (sections : List OutSection) (position address size : ℕ) : Type 0 where
+  pub section : OutSection
+  pub there : slice_get sections position ≡ Some section
+  pub starts : section.address ≤ address
+  pub ends : address + size ≤ section.address + section.size
+
+-- a piece is a section of an object, and all its bytes stand in its output section
+pub record PieceStands (j : Planned) (sections : List OutSection) (p : PieceAt) : Type 0 where
+  pub piece : Piece
+  pub given : piece_at j.objects (section_of p.object p.section) ≡ Some piece
+  pub stands : StandsIn sections p.out p.address piece.input.size
+
+abbrev pub PiecesAreWithin : Type 0
+PiecesAreWithin = (j : Planned) (l : Layout) → IsLayoutOf j l → All (PieceStands j l.sections) l.pieces
+
+-- a common symbol stands in .bss
+abbrev pub CommonStands : Planned → List OutSection → CommonAt → Type 0
+CommonStands j sections c =
+    StandsIn sections (output_position j bss) c.address (common_size (mentions_at j c.name))
+
+abbrev pub CommonsAreWithin : Type 0
+CommonsAreWithin = (j : Planned) (l : Layout) → IsLayoutOf j l → All (CommonStands j l.sections) l.commons
+
+-- ---- the ends of the image and of the thread-local segment
+
+pub record EndsInImage (kind : OutKind) (l : Layout) : Type 0 where
+  pub behind : base_of kind ≤ l.end
+  pub end : l.end ≤ most_end kind
+  pub tls_start : l.tls_start ≤ most_end kind
+  pub tls_end : l.tls_start + l.tls_size ≤ most_end kind
+  pub tls_file : l.tls_file ≤ l.tls_size
+
+abbrev pub EndsAreWithin : Type 0
+EndsAreWithin = (j : Planned) (l : Layout) → IsLayoutOf j l → EndsInImage j.options.kind l

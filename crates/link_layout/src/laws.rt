@@ -1,6 +1,6 @@
 //! Laws on layouts.
 
-ghost use Rattle.link_layout.specs.Laws.{SectionsAreTheContents, SectionsAreWithin, ImagesAreLow};
+ghost use Rattle.link_layout.specs.Laws.{SectionsAreTheContents, SectionsAreWithin, ImagesAreLow, PiecesAreWithin, CommonsAreWithin, EndsAreWithin};
 
 /// The sections of a layout are the contents of the image, in order, each at its address.
 pub fn sections_are_the_contents()
@@ -12,4 +12,12 @@ pub fn sections_are_the_contents()
 pub fn sections_are_within()
     ensures within { SectionsAreWithin }
     ensures low { ImagesAreLow }
+{}
+
+/// Each piece is a section of an object, and all its bytes stand in its output section; each common symbol stands in .bss. The
+/// image and the segment of thread-local storage end by the end of the largest image.
+pub fn pieces_are_within()
+    ensures pieces { PiecesAreWithin }
+    ensures commons { CommonsAreWithin }
+    ensures ends { EndsAreWithin }
 {}

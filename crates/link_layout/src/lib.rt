@@ -7,5 +7,5 @@
 mod laws;
 mod layout;
 
-pub use laws::{sections_are_the_contents, sections_are_within};
+pub use laws::{pieces_are_within, sections_are_the_contents, sections_are_within};
 pub use layout::lay_out_by;
