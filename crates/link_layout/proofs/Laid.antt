@@ -1,10 +1,9 @@
 -- What a layout is that is given, and what its limits say of its ends.
-use Rattle.std.proofs.Common.{◌≡◌, ℕ, ◌+◌, ◌-◌, ◌<◌, ◌≤◌, ◌^◌, length, max, Result, Ok, ap, refl, sym, ◌∙◌, arith, Bool, true, false}
+use Rattle.std.proofs.Common.{◌≡◌, ℕ, ◌+◌, ◌-◌, ◌≤◌, length, max, Result, Ok, refl, sym, arith, Bool, true, false}
 use Rattle.std.specs.Prelude.{if◌then◌else◌, nat_le}
 use Rattle.std.proofs.lemmas.Bool.Decides.{nat_tests}
 use Rattle.ifs_bytes.specs.Outcome.{check, ◌>>=◌}
 use Rattle.link_core.specs.declared.layout.Layout.{Layout}
-use Rattle.link_core.specs.declared.options.OutKind.{OutKind}
 use Rattle.link_core.specs.declared.options.OutKind.TheVariants as kinds
 use Rattle.link_core.specs.declared.refusal.LinkRefusal.{LinkRefusal}
 use Rattle.link_core.specs.declared.tables.TheConstants.{MOST_IMAGE_BYTES, MOST_OUTPUT_SECTIONS}

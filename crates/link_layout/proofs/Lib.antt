@@ -12,3 +12,4 @@ pub mod Placed
 pub mod Laid
 pub mod Within
 pub mod Standing
+pub mod InOrder

@@ -1,7 +1,7 @@
 -- Pieces and common symbols stand in their output sections.
-use Rattle.std.proofs.Common.{◌≡◌, ℕ, ◌+◌, ◌-◌, ◌≤◌, List, [], ◌∷◌, ◌++◌, map, length, refl, ap, sym, ◌∙◌, arith, subst, append_assoc, suc, zero, cond, Option, Some, None, Bool, true, false}
+use Rattle.std.proofs.Common.{◌≡◌, ℕ, ◌+◌, ◌-◌, ◌≤◌, List, [], ◌∷◌, ◌++◌, map, length, refl, ap, sym, ◌∙◌, arith, subst, cond, Option, Some, None, Bool, true, false}
 use Rattle.std.specs.List.{AllByRecursion, cons_option, filter_map, flat_map, zip}
-use Rattle.std.specs.Prelude.{All, filter, if◌then◌else◌, option_and_then, option_map, slice_get, slice_index, ◌&&◌}
+use Rattle.std.specs.Prelude.{All, filter, if◌then◌else◌, option_and_then, option_map, slice_get, ◌&&◌}
 use Rattle.std.proofs.lemmas.List.Elements.{All-from_recursion}
 use Rattle.ifs_interface.specs.Triple.{same_name}
 use Rattle.ifs_interface.proofs.Names.{same_name-is}
@@ -14,14 +14,13 @@ use Rattle.link_core.specs.Aligned.{aligned, end_from, places_from}
 use Rattle.link_core.specs.Commons.{CommonItem, Item as Standing, PieceItem, bss, commons_of, item_align, item_size, items_of, outputs_by}
 use Rattle.link_core.specs.Contents.{Content, contents_of, output_section}
 use Rattle.link_core.specs.Kept.{kept_sections, section_of}
-use Rattle.link_core.specs.Layout.{addresses_of, base_of, commons_at, data_start, has_threads, item_places, layout_by, output_address, output_position, pieces_at, tls_end, tls_file_end, tls_start, written_end}
+use Rattle.link_core.specs.Layout.{commons_at, has_threads, item_places, layout_by, output_address, output_position, pieces_at, tls_end, tls_file_end, tls_start}
 use Rattle.link_core.specs.OutputNames.{Output, Piece, by_priority, goes_before, kept_pieces, output_of, piece_at, pieces_of, priority, put_by_priority, same_class, same_output}
 use Rattle.link_core.specs.Planned.{Planned, pieces_in}
 use Rattle.link_tables.proofs.Ends.{end_is_behind}
-use Rattle.link_tables.proofs.Multiples.{aligned_is_behind}
-use Rattle.link_layout.specs.Laws.{CommonStands, CommonsAreWithin, EndsAreWithin, EndsInImage, IsLayoutOf, PieceStands, PiecesAreWithin, StandsIn, most_end, section_at}
-use Rattle.link_layout.proofs.Found.{Found, class_is, first_of, found_at, fresh_in, of_class, position_at}
-use Rattle.link_layout.proofs.Laid.{Laid, laid, tls_within, written_within}
+use Rattle.link_layout.specs.Laws.{CommonStands, CommonsAreWithin, EndsAreWithin, EndsInImage, PieceStands, PiecesAreWithin, StandsIn, most_end, section_at}
+use Rattle.link_layout.proofs.Found.{class_is, found_at, fresh_in, position_at}
+use Rattle.link_layout.proofs.Laid.{laid, tls_within, written_within}
 use Rattle.link_layout.proofs.Pieces.{common_from, further, piece_from}
 use Rattle.link_layout.proofs.Placed.{sections_of}
 use Rattle.link_layout.proofs.Small.{IsWithin, data_before, end_before, starts_ascend, zeros_before}
@@ -124,9 +123,10 @@ module _ (j : Planned) (o : Output) (sections : List OutSection) (position addre
       → AllByRecursion (PieceStands j sections) (filter_map (piece_from position address) (zip items (places_from (item_align j) (item_size j) at items)))
   unfolding places_from end_from
   pieces_stand at [] high all = tt
-  pieces_stand at (PieceItem piece ∷ items) high all =
-      (record { piece = piece; given = all.0; stands = item_stands at (PieceItem piece) items high },
-      pieces_stand (aligned (item_align j (PieceItem piece)) at + item_size j (PieceItem piece)) items high all.1)
+  pieces_stand at (PieceItem piece ∷ items) high all = (
+    record { piece = piece; given = all.0; stands = item_stands at (PieceItem piece) items high },
+    pieces_stand (aligned (item_align j (PieceItem piece)) at + item_size j (PieceItem piece)) items high all.1,
+  )
   pieces_stand at (CommonItem n ∷ items) high all =
       pieces_stand (aligned (item_align j (CommonItem n)) at + item_size j (CommonItem n)) items high all.1
 
@@ -140,9 +140,10 @@ module _ (j : Planned) (o : Output) (sections : List OutSection) (position addre
       commons_stand (aligned (item_align j (PieceItem piece)) at + item_size j (PieceItem piece)) items high all.1 same
   commons_stand at (CommonItem n ∷ items) high all same =
       let place = aligned (item_align j (CommonItem n)) at in
-      let P : ℕ → Type 0 = λ k. StandsIn sections k (address + place) (item_size j (CommonItem n)) in
-      (subst P (same all.0) (item_stands at (CommonItem n) items high),
-      commons_stand (place + item_size j (CommonItem n)) items high all.1 same)
+      let P : ℕ → Type 0 = λ k. StandsIn sections k (address + place) (item_size j (CommonItem n)) in (
+        subst P (same all.0) (item_stands at (CommonItem n) items high),
+        commons_stand (place + item_size j (CommonItem n)) items high all.1 same,
+      )
 
 -- ---- the section
 

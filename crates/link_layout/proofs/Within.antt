@@ -1,5 +1,5 @@
 -- The sections of a layout are the contents, and stand in the image.
-use Rattle.std.proofs.Common.{◌≡◌, ℕ, ◌+◌, ◌≤◌, List, [], ◌∷◌, ◌++◌, map, length, refl, ap, sym, ◌∙◌, arith, subst, suc, zero, Some, Bool, true, false}
+use Rattle.std.proofs.Common.{◌≡◌, ℕ, ◌+◌, ◌≤◌, List, [], ◌∷◌, ◌++◌, map, length, refl, ap, sym, arith, subst, suc, zero, Some, Bool, true, false}
 use Rattle.std.specs.List.{AllByRecursion, zip}
 use Rattle.std.specs.Prelude.{All, slice_get, slice_index}
 use Rattle.std.proofs.lemmas.List.Elements.{All-from_recursion}
@@ -7,12 +7,12 @@ use Rattle.link_core.specs.declared.layout.Layout.{Layout}
 use Rattle.link_core.specs.declared.layout.OutSection.{OutSection}
 use Rattle.link_core.specs.Aligned.{aligned, end_from, places_from}
 use Rattle.link_core.specs.Contents.{Content, contents_of, executed_contents, read_contents, thread_contents, thread_zeros, written_contents}
-use Rattle.link_core.specs.Layout.{addresses_of, base_of, code_end, code_start, contents_end, data_start, has_threads, headers_size, layout_by, read_end, read_start, tls_end, tls_file_end, tls_start, written_end, written_start}
+use Rattle.link_core.specs.Layout.{addresses_of, base_of, code_end, code_start, contents_end, data_start, has_threads, layout_by, read_end, read_start, tls_end, tls_file_end, tls_start, written_end, written_start}
 use Rattle.link_core.specs.Planned.{Planned}
 use Rattle.link_tables.proofs.Ends.{end_is_behind}
 use Rattle.link_tables.proofs.Multiples.{aligned_is_behind}
 use Rattle.link_layout.specs.Laws.{AreContents, IsInImage, IsLayoutOf, SectionsAreTheContents, SectionsAreWithin, most_end, section_at}
-use Rattle.link_layout.proofs.Laid.{Laid, laid, tls_within, written_within}
+use Rattle.link_layout.proofs.Laid.{laid, tls_within, written_within}
 use Rattle.link_layout.proofs.Pieces.{lengths}
 use Rattle.link_layout.proofs.Placed.{sections_of, sections_parts}
 use Rattle.link_layout.proofs.Sections.{section_from, sections_from}

@@ -1,14 +1,15 @@
 -- What holds of each layout.
-use Rattle.std.specs.Prelude.{All, List, Ok, Option, Some, length, slice_get, slice_index, ℕ, ◌+◌, ◌<◌, ◌^◌, ◌≡◌, ◌≤◌}
+use Rattle.std.specs.Prelude.{All, List, Ok, Some, [], length, slice_get, slice_index, ℕ, ◌%◌, ◌++◌, ◌+◌, ◌<◌, ◌^◌, ◌∷◌, ◌≡◌, ◌≤◌}
 use Rattle.link_core.specs.declared.layout.CommonAt.{CommonAt}
 use Rattle.link_core.specs.declared.layout.Layout.{Layout}
 use Rattle.link_core.specs.declared.layout.OutSection.{OutSection}
 use Rattle.link_core.specs.declared.layout.PieceAt.{PieceAt}
 use Rattle.link_core.specs.declared.options.OutKind.{OutKind}
 use Rattle.link_core.specs.declared.tables.TheConstants.{MOST_IMAGE_BYTES}
+use Rattle.link_core.specs.Aligned.{alignment}
 use Rattle.link_core.specs.Binding.{common_size}
 use Rattle.link_core.specs.Commons.{bss, mentions_at}
-use Rattle.link_core.specs.Contents.{Content, contents_of}
+use Rattle.link_core.specs.Contents.{Content, contents_of, executed_contents, read_contents, thread_contents, thread_zeros, written_contents}
 use Rattle.link_core.specs.Kept.{section_of}
 use Rattle.link_core.specs.Layout.{addresses_of, base_of, layout_of, output_position}
 use Rattle.link_core.specs.OutputNames.{Piece, piece_at}
@@ -94,3 +95,39 @@ pub record EndsInImage (kind : OutKind) (l : Layout) : Type 0 where
 
 abbrev pub EndsAreWithin : Type 0
 EndsAreWithin = (j : Planned) (l : Layout) → IsLayoutOf j l → EndsInImage j.options.kind l
+
+-- ---- places are multiples of their alignments
+
+-- an alignment of 0 counts as 1
+abbrev pub IsAligned : OutSection → Type 0
+IsAligned s = s.address % alignment s.align ≡ 0
+
+abbrev pub PlacesAreAligned : Type 0
+PlacesAreAligned = (j : Planned) (l : Layout) → IsLayoutOf j l → All IsAligned l.sections
+
+-- ---- places ascend
+
+-- each section starts at or behind the end of the one before it, the first at or behind an address
+abbrev pub Ascend : ℕ → List OutSection → Type 0
+Ascend at [] = Unit {0}
+Ascend at (s ∷ ss) = (at ≤ s.address) × Ascend (s.address + s.size) ss
+
+-- the sections by what they are: of segment R, code, thread-local data, its zeros, and the rest of segment W.
+-- The zeros follow thread-local data, and take no addresses from what follows.
+pub record AreInOrder (j : Planned) (sections : List OutSection) : Type 0 where
+  pub read : List OutSection
+  pub code : List OutSection
+  pub thread : List OutSection
+  pub zeros : List OutSection
+  pub written : List OutSection
+  pub whole : sections ≡ read ++ code ++ thread ++ zeros ++ written
+  pub all_read : length read ≡ length (read_contents j)
+  pub all_code : length code ≡ length (executed_contents j)
+  pub all_thread : length thread ≡ length (thread_contents j)
+  pub all_zeros : length zeros ≡ length (thread_zeros j)
+  pub all_written : length written ≡ length (written_contents j)
+  pub ascend : Ascend (base_of j.options.kind) (read ++ code ++ thread ++ written)
+  pub zeros_ascend : Ascend (base_of j.options.kind) (read ++ code ++ thread ++ zeros)
+
+abbrev pub PlacesAscend : Type 0
+PlacesAscend = (j : Planned) (l : Layout) → IsLayoutOf j l → AreInOrder j l.sections

@@ -1,6 +1,6 @@
 //! Laws on layouts.
 
-ghost use Rattle.link_layout.specs.Laws.{SectionsAreTheContents, SectionsAreWithin, ImagesAreLow, PiecesAreWithin, CommonsAreWithin, EndsAreWithin};
+ghost use Rattle.link_layout.specs.Laws.{SectionsAreTheContents, SectionsAreWithin, ImagesAreLow, PiecesAreWithin, CommonsAreWithin, EndsAreWithin, PlacesAreAligned, PlacesAscend};
 
 /// The sections of a layout are the contents of the image, in order, each at its address.
 pub fn sections_are_the_contents()
@@ -20,4 +20,15 @@ pub fn pieces_are_within()
     ensures pieces { PiecesAreWithin }
     ensures commons { CommonsAreWithin }
     ensures ends { EndsAreWithin }
+{}
+
+/// The address of each section is a multiple of its alignment; an alignment of 0 counts as 1.
+pub fn places_are_aligned()
+    ensures { PlacesAreAligned }
+{}
+
+/// Each section starts at or behind the end of the one before it: segment R, code, thread-local data, and what else is written.
+/// The zeros of threads follow thread-local data, and take no addresses from what follows.
+pub fn places_ascend()
+    ensures { PlacesAscend }
 {}

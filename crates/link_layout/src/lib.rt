@@ -7,5 +7,8 @@
 mod laws;
 mod layout;
 
-pub use laws::{pieces_are_within, sections_are_the_contents, sections_are_within};
+pub use laws::{
+    pieces_are_within, places_are_aligned, places_ascend, sections_are_the_contents,
+    sections_are_within,
+};
 pub use layout::lay_out_by;
