@@ -13,3 +13,4 @@ pub mod Laid
 pub mod Within
 pub mod Standing
 pub mod InOrder
+pub mod Greatest

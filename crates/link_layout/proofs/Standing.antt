@@ -28,13 +28,13 @@ use Rattle.link_layout.proofs.Within.{all_both, contents_placed, written_low}
 
 -- ---- each piece is a section of an object
 
-abbrev IsGiven : Planned → Piece → Type 0
+abbrev pub IsGiven : Planned → Piece → Type 0
 IsGiven j p = piece_at j.objects (section_of p.object p.section) ≡ Some p
 
 abbrev input_at : List ObjectRecord → Member → Option ObjSection
 input_at objects m = option_and_then (λ o. slice_get o.sections m.section) (slice_get objects m.object)
 
-abbrev piece_by : Member → ObjSection → Piece
+abbrev pub piece_by : Member → ObjSection → Piece
 piece_by m s = record { object = m.object; section = m.section; input = s }
 
 given_turn :
@@ -76,7 +76,7 @@ module _ (P : Piece → Type 0) where
   all_ordered (x ∷ xs) all = all_put x (by_priority xs) all.0 (all_ordered xs all.1)
 
 -- a piece is given, and common symbols are in .bss
-abbrev IsGivenItem : Planned → Output → Standing → Type 0
+abbrev pub IsGivenItem : Planned → Output → Standing → Type 0
 IsGivenItem j o (PieceItem piece) = IsGiven j piece
 IsGivenItem j o (CommonItem n) = same_output o bss ≡ true
 
@@ -92,7 +92,7 @@ commons_given : (j : Planned) (o : Output) (b : Bool) → same_output o bss ≡ 
 commons_given j o true same = numbers_given j o (commons_of j) same
 commons_given j o false same = tt
 
-items_given : (j : Planned) (o : Output) → AllByRecursion (IsGivenItem j o) (items_of j o)
+pub items_given : (j : Planned) (o : Output) → AllByRecursion (IsGivenItem j o) (items_of j o)
 unfolding items_of pieces_of
 items_given j o =
     let chosen = filter (λ p. same_output (output_of p) o) (pieces_in j) in
@@ -177,7 +177,7 @@ parts_true : (a b : Bool) → (a && b) ≡ true → (a ≡ true) × (b ≡ true)
 parts_true true b both = (refl, both)
 parts_true false b both = cc
 
-is_bss : (o : Output) → same_output o bss ≡ true → o ≡ bss
+pub is_bss : (o : Output) → same_output o bss ≡ true → o ≡ bss
 is_bss o same =
     let both = parts_true (same_name o.name bss.name) (same_class o.class bss.class) same in
     let name = same_name-is o.name bss.name both.0 in

@@ -1,5 +1,6 @@
 -- What holds of each layout.
 use Rattle.std.specs.Prelude.{All, List, Ok, Some, [], length, slice_get, slice_index, ℕ, ◌%◌, ◌++◌, ◌+◌, ◌<◌, ◌^◌, ◌∷◌, ◌≡◌, ◌≤◌}
+use Rattle.elf_object.specs.Record.{ObjectRecord}
 use Rattle.link_core.specs.declared.layout.CommonAt.{CommonAt}
 use Rattle.link_core.specs.declared.layout.Layout.{Layout}
 use Rattle.link_core.specs.declared.layout.OutSection.{OutSection}
@@ -95,6 +96,16 @@ pub record EndsInImage (kind : OutKind) (l : Layout) : Type 0 where
 
 abbrev pub EndsAreWithin : Type 0
 EndsAreWithin = (j : Planned) (l : Layout) → IsLayoutOf j l → EndsInImage j.options.kind l
+
+-- no section of these objects has an alignment above a number
+abbrev pub AlignAtMost : ℕ → List ObjectRecord → Type 0
+AlignAtMost most objects = All (λ o. All (λ s. s.align ≤ most) o.sections) objects
+
+-- the alignment of the thread-local segment is at most the greatest of the objects' sections
+abbrev pub ThreadsAlignAsSections : Type 0
+ThreadsAlignAsSections =
+    (j : Planned) (l : Layout) (most : ℕ) → IsLayoutOf j l → 1 ≤ most → AlignAtMost most j.objects
+    → l.tls_align ≤ most
 
 -- ---- places are multiples of their alignments
 

@@ -1,6 +1,6 @@
 //! Laws on layouts.
 
-ghost use Rattle.link_layout.specs.Laws.{SectionsAreTheContents, SectionsAreWithin, ImagesAreLow, PiecesAreWithin, CommonsAreWithin, EndsAreWithin, PlacesAreAligned, PlacesAscend};
+ghost use Rattle.link_layout.specs.Laws.{SectionsAreTheContents, SectionsAreWithin, ImagesAreLow, PiecesAreWithin, CommonsAreWithin, EndsAreWithin, ThreadsAlignAsSections, PlacesAreAligned, PlacesAscend};
 
 /// The sections of a layout are the contents of the image, in order, each at its address.
 pub fn sections_are_the_contents()
@@ -15,11 +15,13 @@ pub fn sections_are_within()
 {}
 
 /// Each piece is a section of an object, and all its bytes stand in its output section; each common symbol stands in .bss. The
-/// image and the segment of thread-local storage end by the end of the largest image.
+/// image and the segment of thread-local storage end by the end of the largest image, and the alignment of that segment is at
+/// most the greatest of the objects' sections.
 pub fn pieces_are_within()
     ensures pieces { PiecesAreWithin }
     ensures commons { CommonsAreWithin }
     ensures ends { EndsAreWithin }
+    ensures align { ThreadsAlignAsSections }
 {}
 
 /// The address of each section is a multiple of its alignment; an alignment of 0 counts as 1.
