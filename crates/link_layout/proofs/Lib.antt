@@ -14,3 +14,4 @@ pub mod Within
 pub mod Standing
 pub mod InOrder
 pub mod Greatest
+pub mod Tables

@@ -1,5 +1,5 @@
 -- What holds of each layout.
-use Rattle.std.specs.Prelude.{All, List, Ok, Some, [], length, slice_get, slice_index, ℕ, ◌%◌, ◌++◌, ◌+◌, ◌<◌, ◌^◌, ◌∷◌, ◌≡◌, ◌≤◌}
+use Rattle.std.specs.Prelude.{All, List, Ok, Some, [], find, length, slice_get, slice_index, ℕ, ◌%◌, ◌++◌, ◌+◌, ◌<◌, ◌^◌, ◌∷◌, ◌≡◌, ◌≤◌}
 use Rattle.elf_object.specs.Record.{ObjectRecord}
 use Rattle.link_core.specs.declared.layout.CommonAt.{CommonAt}
 use Rattle.link_core.specs.declared.layout.Layout.{Layout}
@@ -14,6 +14,7 @@ use Rattle.link_core.specs.Contents.{Content, contents_of, executed_contents, re
 use Rattle.link_core.specs.Kept.{section_of}
 use Rattle.link_core.specs.Layout.{addresses_of, base_of, layout_of, output_position}
 use Rattle.link_core.specs.OutputNames.{Piece, piece_at}
+use Rattle.link_core.specs.Places.{is_table, table_size}
 use Rattle.link_core.specs.Planned.{Planned}
 
 abbrev pub IsLayoutOf : Planned → Layout → Type 0
@@ -42,6 +43,12 @@ pub record AreContents (contents : List Content) (addresses : List ℕ) (section
 abbrev pub SectionsAreTheContents : Type 0
 SectionsAreTheContents =
     (j : Planned) (l : Layout) → IsLayoutOf j l → AreContents (contents_of j) (addresses_of j) l.sections
+
+-- a table that is there has the size that its content says
+abbrev pub TablesHaveTheirSize : Type 0
+TablesHaveTheirSize =
+    (j : Planned) (l : Layout) (name : List ℕ) (c : Content) → IsLayoutOf j l
+    → find (is_table name) (contents_of j) ≡ Some c → table_size j l name ≡ c.size
 
 -- ---- sections stand in the image
 

@@ -1,6 +1,6 @@
 //! Laws on layouts.
 
-ghost use Rattle.link_layout.specs.Laws.{SectionsAreTheContents, SectionsAreWithin, ImagesAreLow, PiecesAreWithin, CommonsAreWithin, EndsAreWithin, ThreadsAlignAsSections, PlacesAreAligned, PlacesAscend};
+ghost use Rattle.link_layout.specs.Laws.{SectionsAreTheContents, SectionsAreWithin, ImagesAreLow, PiecesAreWithin, CommonsAreWithin, EndsAreWithin, ThreadsAlignAsSections, PlacesAreAligned, PlacesAscend, TablesHaveTheirSize};
 
 /// The sections of a layout are the contents of the image, in order, each at its address.
 pub fn sections_are_the_contents()
@@ -33,4 +33,9 @@ pub fn places_are_aligned()
 /// The zeros of threads follow thread-local data, and take no addresses from what follows.
 pub fn places_ascend()
     ensures { PlacesAscend }
+{}
+
+/// A table that the image has is as large as its content says.
+pub fn tables_have_their_size()
+    ensures { TablesHaveTheirSize }
 {}

@@ -9,6 +9,6 @@ mod layout;
 
 pub use laws::{
     pieces_are_within, places_are_aligned, places_ascend, sections_are_the_contents,
-    sections_are_within,
+    sections_are_within, tables_have_their_size,
 };
 pub use layout::lay_out_by;
