@@ -108,7 +108,7 @@ EndsAreWithin = (j : Planned) (l : Layout) → IsLayoutOf j l → EndsInImage j.
 abbrev pub AlignAtMost : ℕ → List ObjectRecord → Type 0
 AlignAtMost most objects = All (λ o. All (λ s. s.align ≤ most) o.sections) objects
 
--- the alignment of the thread-local segment is at most the greatest of the objects' sections
+-- the alignment of the thread-local segment is at most the greatest of the objects' sections, or 1
 abbrev pub ThreadsAlignAsSections : Type 0
 ThreadsAlignAsSections =
     (j : Planned) (l : Layout) (most : ℕ) → IsLayoutOf j l → 1 ≤ most → AlignAtMost most j.objects
