@@ -1,0 +1,11 @@
+//! Look-ups in a layout: where the sections, the pieces and the common symbols of the made file stand.
+//!
+//! `Pieces` and `Commons` find what stands in an output section by one look-up.
+//! Each is made by one pass over the layout.
+#![tactic(auto)]
+
+mod commons;
+mod pieces;
+
+pub use commons::Commons;
+pub use pieces::Pieces;
