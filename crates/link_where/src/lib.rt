@@ -1,11 +1,13 @@
 //! Look-ups in a layout: where the sections, the pieces and the common symbols of the made file stand.
 //!
-//! `Pieces` and `Commons` find what stands in an output section by one look-up.
-//! Each is made by one pass over the layout.
+//! `Pieces` and `Commons` find what stands in an output section by one look-up, and `Ends` has where
+//! the parts of the file end. Each is made by one pass over the layout.
 #![tactic(auto)]
 
 mod commons;
+mod ends;
 mod pieces;
 
 pub use commons::Commons;
+pub use ends::Ends;
 pub use pieces::Pieces;
