@@ -1,3 +1,4 @@
 pub mod Pieces
 pub mod Commons
 pub mod Ends
+pub mod Tables
