@@ -1,4 +1,4 @@
 mod Proper
 mod Ascending
-mod Runs
-mod Sorting
+pub mod Runs
+pub mod Sorting
