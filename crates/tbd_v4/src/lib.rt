@@ -15,3 +15,6 @@ mod places;
 mod printed;
 
 pub use printed::print;
+
+#[cfg(test)]
+mod tests;
