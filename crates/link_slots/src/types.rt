@@ -1,11 +1,11 @@
 //! The relocation types that a link leaves to the loader.
 
 ghost use Rattle.std.specs.Prelude.{◌≡◌};
-ghost use Rattle.link_machine.specs.A64.{a64_dynamic};
-ghost use Rattle.link_machine.specs.X86.{x86_dynamic};
+ghost use Rattle.link_machine.specs.A64.{a64_dynamic, a64_rules};
+ghost use Rattle.link_machine.specs.X86.{x86_dynamic, x86_rules};
 ghost use Rattle.link_slots.specs.Types.{types_of};
 
-use link_core::{EM_AARCH64, EM_X86_64};
+use link_core::{EM_AARCH64, EM_X86_64, Machine};
 use std::marker::Model;
 
 /// The types of dynamic relocations, by their numbers on a machine (R_X86_64_GLOB_DAT, R_AARCH64_GLOB_DAT
@@ -92,3 +92,20 @@ pub fn dynamic_types(number: u16) -> Option<DynamicTypes>
         None
     }
 }
+
+/// The types of a machine that a link knows.
+pub fn types_for<M: Machine>(machine: &M) -> DynamicTypes
+    requires { types_of M.rules.number ≡ Some M.rules.dynamic }
+    ensures { result ≡ M.rules.dynamic }
+{
+    match dynamic_types(machine.number()) {
+        Some(types) => types,
+        None => unreachable!(),
+    }
+}
+
+/// Law: a link knows both machines, so that `types_for` may be called with each.
+pub fn machines_are_known()
+    ensures x86 { types_of x86_rules.number ≡ Some x86_rules.dynamic }
+    ensures a64 { types_of a64_rules.number ≡ Some a64_rules.dynamic }
+{}
