@@ -6,3 +6,6 @@ mod part;
 
 pub use field::{field_at, put_field, put_words};
 pub use part::{pad_to, put_part};
+
+#[cfg(test)]
+mod tests;
