@@ -1,3 +1,4 @@
 pub mod Found
 pub mod Ending
 pub mod Tabled
+pub mod ByName

@@ -43,7 +43,7 @@ pub struct TablePositions {
 }
 
 // Whether a file of this kind is a program.
-fn is_program(kind: OutKind) -> bool
+pub(crate) fn is_program(kind: OutKind) -> bool
     ensures { result ≡ meant.is_program kind }
 {
     match kind {
@@ -91,7 +91,7 @@ fn first_data(sections: &[OutSection]) -> usize
     data_place(sections).unwrap_or(sections.len())
 }
 
-fn count_if(there: bool) -> usize
+pub(crate) fn count_if(there: bool) -> usize
     ensures { result ≡ meant.count_if there }
 {
     if there { 1 } else { 0 }
@@ -127,11 +127,11 @@ fn positions_by(there: There, count: usize, code: usize, written: usize) -> Tabl
 
 // Which tables are there, of those that need not be.
 #[derive(Clone, Copy)]
-struct There {
-    program: bool,
-    moves: bool,
-    calls: bool,
-    words: bool,
+pub(crate) struct There {
+    pub(crate) program: bool,
+    pub(crate) moves: bool,
+    pub(crate) calls: bool,
+    pub(crate) words: bool,
 }
 
 /// The positions of the tables in a layout of this kind of file, by this plan. `moves_there` says whether there are
