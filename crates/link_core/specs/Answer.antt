@@ -21,7 +21,7 @@ side_by file_name (sources.Refused cause) = Refused cause
 abbrev pub side_of : Lib InterfaceRecord → Side
 side_of lib = side_by lib.file_name lib.source
 
-abbrev answer_by : Result (List ℕ) LinkRefusal → Answer
+abbrev pub answer_by : Result (List ℕ) LinkRefusal → Answer
 answer_by (Ok bytes) = answers.Image bytes
 answer_by (Err refusal) = answers.Refused refusal
 

@@ -10,7 +10,7 @@ use Rattle.link_core.specs.OutputNames.{Output, Piece, outputs_of, pieces_of, sa
 use Rattle.link_core.specs.Plan.{positions}
 use Rattle.link_core.specs.Planned.{Planned, name_at, pieces_in}
 
-abbrev is_common_bound : Bound → Bool
+abbrev pub is_common_bound : Bound → Bool
 is_common_bound (bounds.Object object row) = false
 is_common_bound bounds.Common = true
 is_common_bound bounds.Provided = false

@@ -224,7 +224,7 @@ abbrev pub has_plt : Planned → Bool
 has_plt j = nat_lt 0 (length j.plan.plt)
 
 -- a section, where it is there
-abbrev present : Bool → Content → List Content
+abbrev pub present : Bool → Content → List Content
 present there content = if there then content ∷ [] else []
 
 -- the output sections of a class, in order of first appearance

@@ -31,11 +31,11 @@ pub record Entry : Type 0 where
   pub meaning : Meaning
 
 -- an entry, where it is there
-abbrev entry : Bool → ℕ → Meaning → List Entry
+abbrev pub entry : Bool → ℕ → Meaning → List Entry
 entry there tag meaning = if there then record { tag = tag; meaning = meaning } ∷ [] else []
 
 -- entries of a name that is bound to an object
-abbrev symbol_entry : Planned → ℕ → List ℕ → List Entry
+abbrev pub symbol_entry : Planned → ℕ → List ℕ → List Entry
 symbol_entry j tag name = flat_map (λ n. entry true tag (SymbolAt n)) (option_to_list (object_name j name))
 
 -- there is an output section of the name
@@ -43,15 +43,15 @@ abbrev pub has_output : Planned → List ℕ → Bool
 has_output j name = list_any (λ output. same_name output.name name) (outputs_by j)
 
 -- the address and the size of an output section
-abbrev array_entries : Bool → ℕ → ℕ → List ℕ → List Entry
+abbrev pub array_entries : Bool → ℕ → ℕ → List ℕ → List Entry
 array_entries there tag size_tag name =
     entry there tag (FirstStart name) ++ entry there size_tag (FirstSize name)
 
 -- DF_BIND_NOW, and DF_STATIC_TLS where a library has a reference to the thread pointer
-abbrev bind_now_flag : LinkOptions → ℕ
+abbrev pub bind_now_flag : LinkOptions → ℕ
 bind_now_flag options = if options.bind_now then DF_BIND_NOW else 0
 
-abbrev is_of_pointer : RefClass → Bool
+abbrev pub is_of_pointer : RefClass → Bool
 is_of_pointer refs.Nothing = false
 is_of_pointer refs.Abs64 = false
 is_of_pointer refs.Abs32 = false
@@ -65,10 +65,10 @@ is_of_pointer refs.Ld = false
 is_of_pointer refs.Dtp = false
 is_of_pointer refs.Desc = false
 
-abbrev is_initial_exec : MachineRules → Use → Bool
+abbrev pub is_initial_exec : MachineRules → Use → Bool
 is_initial_exec rules u = option_map_or is_of_pointer (class_of rules u.reference.kind) false
 
-abbrev static_tls_flag : Planned → ℕ
+abbrev pub static_tls_flag : Planned → ℕ
 static_tls_flag j =
     if is_shared j.options.kind && list_any (is_initial_exec j.rules) (uses_by j) then DF_STATIC_TLS else 0
 

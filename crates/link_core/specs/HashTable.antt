@@ -32,7 +32,7 @@ abbrev pub bucket_word : List (List ℕ) → ℕ → ℕ
 bucket_word names bucket = next_in_bucket names bucket 1
 
 -- row 0 is in no bucket
-abbrev chain_word : List (List ℕ) → ℕ × List ℕ → ℕ
+abbrev pub chain_word : List (List ℕ) → ℕ × List ℕ → ℕ
 chain_word names row = next_in_bucket names (bucket_of names row.1) (row.0 + 1)
 
 unfoldable pub hash_words : List (List ℕ) → List ℕ

@@ -55,7 +55,7 @@ table_segment j l kind flags name align =
     segment_for j kind flags (table_address j l name) (table_size j l name) (table_size j l name) align
 
 -- PF_X, where a piece of W, thread-local ones among them, is executable
-abbrev is_written_class : OutClass → Bool
+abbrev pub is_written_class : OutClass → Bool
 is_written_class classes.R = false
 is_written_class classes.X = false
 is_written_class classes.W = true

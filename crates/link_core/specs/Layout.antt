@@ -42,7 +42,7 @@ abbrev pub contents_end : ℕ → List Content → ℕ
 contents_end at contents = end_from (λ c. c.align) (λ c. c.size) at contents
 
 -- PT_PHDR and PT_INTERP in programs; PT_LOAD of R, X and W; PT_DYNAMIC; PT_TLS; PT_GNU_STACK
-abbrev count_if : Bool → ℕ
+abbrev pub count_if : Bool → ℕ
 count_if there = if there then 1 else 0
 
 abbrev pub has_code : Planned → Bool
@@ -107,7 +107,7 @@ addresses_of j =
     ++ addresses_from (tls_file_end j) (thread_zeros j)
     ++ addresses_from (data_start j) (written_contents j)
 
-abbrev section_from : Content × ℕ → OutSection
+abbrev pub section_from : Content × ℕ → OutSection
 section_from placed = record {
   name = placed.0.name;
   kind = placed.0.kind;
@@ -134,12 +134,12 @@ output_position j output = position_or_len (is_output output) (contents_of j)
 abbrev pub output_address : Planned → Output → ℕ
 output_address j output = slice_index (addresses_of j) (output_position j output)
 
-abbrev piece_from : ℕ → ℕ → Item × ℕ → Option PieceAt
+abbrev pub piece_from : ℕ → ℕ → Item × ℕ → Option PieceAt
 piece_from out address (PieceItem piece, place) =
     Some (record { object = piece.object; section = piece.section; out = out; address = address + place })
 piece_from out address (CommonItem n, place) = None
 
-abbrev common_from : ℕ → Item × ℕ → Option CommonAt
+abbrev pub common_from : ℕ → Item × ℕ → Option CommonAt
 common_from address (PieceItem piece, place) = None
 common_from address (CommonItem n, place) = Some (record { name = n; address = address + place })
 

@@ -35,12 +35,12 @@ field_after j l u old = field_by j l u (need_in j u).need old
 -- ---- refusals: the first value out of its range, or else the first that isn't the multiple of its type,
 -- whatever stood in the field
 
-abbrev overflow_in : At → Result ℕ PatchCause → Option LinkRefusal
+abbrev pub overflow_in : At → Result ℕ PatchCause → Option LinkRefusal
 overflow_in at (Ok field) = None
 overflow_in at (Err (causes.Overflow value)) = Some (Overflow at value)
 overflow_in at (Err causes.Misaligned) = None
 
-abbrev misaligned_in : At → Result ℕ PatchCause → Option LinkRefusal
+abbrev pub misaligned_in : At → Result ℕ PatchCause → Option LinkRefusal
 misaligned_in at (Ok field) = None
 misaligned_in at (Err (causes.Overflow value)) = None
 misaligned_in at (Err causes.Misaligned) = Some (Misaligned at)
@@ -63,7 +63,7 @@ abbrev pub with_field : List ℕ → ℕ → ℕ → ℕ → List ℕ
 with_field bytes at size value = take at bytes ++ number_bytes size value Little ++ drop (at + size) bytes
 
 -- a value that doesn't go in changes nothing; then there is no image
-abbrev kept_or : ℕ → Result ℕ PatchCause → ℕ
+abbrev pub kept_or : ℕ → Result ℕ PatchCause → ℕ
 kept_or old (Ok field) = field
 kept_or old (Err cause) = old
 
@@ -79,7 +79,7 @@ unfoldable pub uses_at : Planned → ℕ → ℕ → List Use
 uses_at j object section = filter (λ u. u.object == object && u.reference.section == section) (uses_by j)
 
 -- the bytes of a section as its object has them
-abbrev bytes_of : List ℕ → ObjSection → List ℕ
+abbrev pub bytes_of : List ℕ → ObjSection → List ℕ
 bytes_of file s = slice_range file s.offset (s.offset + s.size)
 
 unfoldable pub input_bytes : Planned → ℕ → ℕ → List ℕ

@@ -66,7 +66,7 @@ code_segment_end l = last_end (λ s. is_read s || is_code s) l
 unfoldable pub file_end : Layout → ℕ
 file_end l = last_end has_bytes l
 
-abbrev is_zeroed : OutSection → Bool
+abbrev pub is_zeroed : OutSection → Bool
 is_zeroed s = not (has_bytes s) && not (is_thread s)
 
 -- where zeros start: the first section of class B

@@ -43,7 +43,7 @@ row_at j n = slice_get j.names.names n
 unfoldable pub name_at : Planned → ℕ → List ℕ
 name_at j n = option_map_or (λ row. row.name) (row_at j n) []
 
-abbrev is_of_object : Bound → Bool
+abbrev pub is_of_object : Bound → Bool
 is_of_object (bounds.Object object row) = true
 is_of_object bounds.Common = false
 is_of_object bounds.Provided = false
@@ -69,7 +69,7 @@ symbol_state j ids.Module = states.Own
 -- ---- what a reference needs, where the plan was made
 
 -- a reference whose need is refused has no plan
-abbrev need_or_none : Use → Result Needed LinkRefusal → Needed
+abbrev pub need_or_none : Use → Result Needed LinkRefusal → Needed
 need_or_none u (Ok n) = n
 need_or_none u (Err refusal) = needed u (ids.Local u.object 0) needs.Clear
 

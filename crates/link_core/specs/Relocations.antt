@@ -38,7 +38,7 @@ symbol_row j (ids.Name n) = symbol_index j.plan n
 symbol_row j (ids.Local object row) = 0
 symbol_row j ids.Module = 0
 
-abbrev fill_rela : Planned → Layout → ℕ → SymbolId → Fill → Rela
+abbrev pub fill_rela : Planned → Layout → ℕ → SymbolId → Fill → Rela
 fill_rela j l at id fill = record {
   offset = at + 8 * fill.word;
   kind = fill.kind;
@@ -50,7 +50,7 @@ unfoldable pub slot_relas : Planned → Layout → ℕ × GotSlot → List Rela
 slot_relas j l place =
     map (fill_rela j l (slot_address j l place.0) place.1.symbol) (slots_by j place.1).fills
 
-abbrev same_place : At → At → Bool
+abbrev pub same_place : At → At → Bool
 same_place a b = a.object == b.object && a.section == b.section && a.index == b.index
 
 -- the reference that a relocation stands for
@@ -58,12 +58,12 @@ unfoldable pub use_at : Planned → At → Option Use
 use_at j at = find (λ u. same_place (at_of u) at) (uses_by j)
 
 -- the base is added to the address of the symbol, or the address of a name to the addend
-abbrev move_addend : Planned → Layout → DynReloc → Use → ℕ
+abbrev pub move_addend : Planned → Layout → DynReloc → Use → ℕ
 move_addend j l move u =
     if move.relative then word_of (pos (symbol_value j l (need_in j u).symbol) +ℤ u.reference.addend)
     else word_of u.reference.addend
 
-abbrev move_rela : Planned → Layout → DynReloc → Use → Rela
+abbrev pub move_rela : Planned → Layout → DynReloc → Use → Rela
 move_rela j l move u = record {
   offset = field_address l u;
   kind = if move.relative then j.rules.dynamic.relative else j.rules.dynamic.abs64;
@@ -85,7 +85,7 @@ rela_dyn_bytes j l =
 unfoldable pub plt_slot_address : Planned → Layout → ℕ → ℕ
 plt_slot_address j l i = table_address j l (codes ".got.plt") + 8 * (3 + i)
 
-abbrev plt_rela : Planned → Layout → ℕ × ℕ → Rela
+abbrev pub plt_rela : Planned → Layout → ℕ × ℕ → Rela
 plt_rela j l place = record {
   offset = plt_slot_address j l place.0;
   kind = j.rules.dynamic.jump_slot;

@@ -32,17 +32,17 @@ pub record Slots : Type 0 where
   pub words : List Word
   pub fills : List Fill
 
-abbrev holding : List Word → Slots
+abbrev pub holding : List Word → Slots
 holding words = record { words = words; fills = [] }
 
 -- words that are 0 in the file
-abbrev filled : ℕ → List Fill → Slots
+abbrev pub filled : ℕ → List Fill → Slots
 filled words fills = record { words = replicate words Nought; fills = fills }
 
-abbrev named_fill : ℕ → ℕ → Fill
+abbrev pub named_fill : ℕ → ℕ → Fill
 named_fill kind word = record { kind = kind; word = word; named = true; addend = Nought }
 
-abbrev plain_fill : ℕ → Word → Fill
+abbrev pub plain_fill : ℕ → Word → Fill
 plain_fill kind addend = record { kind = kind; word = 0; named = false; addend = addend }
 
 -- the address of a symbol, which moves with the file but in a program at fixed addresses

@@ -152,7 +152,7 @@ values_by j l u id need = record {
   off = symbol_offset j l id;
 }
 
-abbrev is_call : RefClass → Bool
+abbrev pub is_call : RefClass → Bool
 is_call refs.Nothing = false
 is_call refs.Abs64 = false
 is_call refs.Abs32 = false
@@ -166,7 +166,7 @@ is_call refs.Ld = false
 is_call refs.Dtp = false
 is_call refs.Desc = false
 
-abbrev is_nothing : RefState → Bool
+abbrev pub is_nothing : RefState → Bool
 is_nothing states.Own = false
 is_nothing states.Abs = false
 is_nothing states.Zero = true

@@ -3,6 +3,7 @@
 #![tactic(auto)]
 
 mod class;
+mod dynamic;
 mod laws;
 mod machine;
 mod patch;
@@ -10,6 +11,7 @@ mod rule;
 mod value;
 
 pub use class::{PatchCause, RefClass, Values};
+pub use dynamic::DynamicTypes;
 pub use laws::{
     later_patch_stands, patch_keeps_other_bits, signed_value_is_read_back,
     unsigned_value_is_read_back, value_is_read_back,

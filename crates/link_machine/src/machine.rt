@@ -1,9 +1,10 @@
 //! The one trait of machines.
 
-ghost use Rattle.std.specs.Prelude.{◌≡◌, ◌≤ℤ◌, ◌*◌, ◌^◌, ◌<◌, pos, neg_ℤ, is_some, true, IfOk, option_map};
+ghost use Rattle.std.specs.Prelude.{◌≡◌, ◌≤ℤ◌, ◌*◌, ◌^◌, ◌<◌, ◌≤◌, pos, neg_ℤ, is_some, true, IfOk, option_map, length};
 ghost use Rattle.link_machine.specs.Rules.{MachineRules, class_of, width_of, value_of, patch_of, padded, IsNear};
 
 use crate::class::{PatchCause, RefClass, Values};
+use crate::dynamic::DynamicTypes;
 
 /// A machine: its table of relocation types and its procedure linkage table. No call takes memory.
 pub trait Machine {
@@ -25,7 +26,12 @@ pub trait Machine {
     /// The size in bytes of a relocation type's field: 0, 4 or 8.
     fn width(&self, kind: u32) -> u64
         requires { is_some (class_of rules kind) ≡ true }
-        ensures { result ≡ width_of rules kind };
+        ensures is { result ≡ width_of rules kind }
+        ensures small { width_of rules kind ≤ 8 };
+
+    /// The types of dynamic relocations.
+    fn dynamic(&self) -> DynamicTypes
+        ensures { result ≡ rules.dynamic };
 
     /// The value of a reference, by its type's formula. Nothing wraps.
     fn value(&self, kind: u32, values: &Values) -> i128
@@ -51,7 +57,8 @@ pub trait Machine {
     /// Bytes past the header's length are 0.
     fn plt_header(&self, at: u64, got_plt: u64) -> [u8; 32]
         requires { IsNear at got_plt }
-        ensures { result ≡ padded 32 (rules.plt_header at got_plt) };
+        ensures padded { result ≡ padded 32 (rules.plt_header at got_plt) }
+        ensures size { length (rules.plt_header at got_plt) ≡ rules.header_len };
 
     /// The entry at the address `at` with the position `index`, for its slot and the table's header.
     fn plt_entry(&self, at: u64, slot: u64, header: u64, index: u32) -> [u8; 16]

@@ -4,9 +4,8 @@ ghost use Rattle.std.specs.Prelude.{◌≡◌, false, true};
 ghost use Rattle.link_core.specs.Slots as meant;
 ghost use Rattle.link_slots.specs.Seen.{slots_of};
 
-use crate::types::DynamicTypes;
 use crate::words::{Fill, Fills, Slots, Word, Words};
-use link_core::{OutKind, RefState, Slot};
+use link_core::{DynamicTypes, OutKind, RefState, Slot};
 
 // A slot that is 0 in the file.
 const EMPTY: Words = Words::Single(Word::Nought);

@@ -5,11 +5,9 @@
 #![tactic(auto)]
 
 mod cases;
-mod types;
 mod words;
 
 pub use cases::slots_for;
-pub use types::{DynamicTypes, dynamic_types, machines_are_known, types_for};
 pub use words::{Fill, Fills, Slots, Word, Words};
 
 #[cfg(test)]

@@ -8,7 +8,7 @@ mod tests;
 
 ghost use Rattle.link_machine.specs.A64.{a64_rules};
 
-use link_machine::{Machine, PatchCause, RefClass, Values, patch_by, value_by};
+use link_machine::{DynamicTypes, Machine, PatchCause, RefClass, Values, patch_by, value_by};
 
 /// AArch64.
 #[derive(Clone, Copy, Debug)]
@@ -36,6 +36,19 @@ impl Machine for A64 {
         match table::rule(kind) {
             Some(rule) => rule.size,
             None => 0,
+        }
+    }
+
+    fn dynamic(&self) -> DynamicTypes {
+        DynamicTypes {
+            abs64: 257,
+            glob_dat: 1025,
+            jump_slot: 1026,
+            relative: 1027,
+            dtpmod64: 1028,
+            dtpoff64: 1029,
+            tpoff64: 1030,
+            tlsdesc: 1031,
         }
     }
 

@@ -6,7 +6,7 @@ ghost use Rattle.link_machine.specs.X86.{x86_rules};
 mod plt;
 mod table;
 
-use link_machine::{Machine, PatchCause, RefClass, Values, patch_by, value_by};
+use link_machine::{DynamicTypes, Machine, PatchCause, RefClass, Values, patch_by, value_by};
 
 /// x86-64.
 #[derive(Clone, Copy, Debug)]
@@ -34,6 +34,19 @@ impl Machine for X86 {
         match table::rule(kind) {
             Some(rule) => rule.size,
             None => 0,
+        }
+    }
+
+    fn dynamic(&self) -> DynamicTypes {
+        DynamicTypes {
+            abs64: 1,
+            glob_dat: 6,
+            jump_slot: 7,
+            relative: 8,
+            dtpmod64: 16,
+            dtpoff64: 17,
+            tpoff64: 18,
+            tlsdesc: 36,
         }
     }
 
