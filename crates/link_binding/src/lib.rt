@@ -12,5 +12,5 @@ mod wanted;
 
 pub use bind::{Bind, bind_name};
 pub use library::{HeldLib, first_library, held_libs, is_defined_by_one};
-pub use row::{is_offered, is_shared, row_of};
+pub use row::{is_offered, row_of};
 pub use wanted::{is_wanted, wanted_names};

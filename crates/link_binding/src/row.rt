@@ -13,20 +13,9 @@ use crate::library::{HeldLib, is_defined_by_one};
 use crate::wanted::is_wanted;
 use ifs_bytes::{Memory, Text};
 use ifs_interface::{SharedLib, Wanted};
-use link_core::{Bound, LinkOptions, NameRow, OutKind, STV_DEFAULT, STV_PROTECTED};
+use link_core::{Bound, LinkOptions, NameRow, STV_DEFAULT, STV_PROTECTED};
 use link_mentions::{Mention, are_weak, strictest};
 use std::alloc::Global;
-
-/// Whether a shared library is made.
-pub fn is_shared(kind: OutKind) -> bool
-    ensures { result ≡ exports.is_shared kind }
-{
-    match kind {
-        OutKind::Exec => false,
-        OutKind::Pie => false,
-        OutKind::Shared => true,
-    }
-}
 
 // Whether a name is an object's definition, or room in the made file.
 fn is_bound_here(bound: Bound) -> bool
@@ -70,14 +59,14 @@ fn is_exported<S: SharedLib>(
     ensures { result ≡ (offered && is_shown options.now (libraries_seen S.facts libs.now) name.now) }
 {
     offered
-        && (is_shared(options.kind) || options.export_dynamic || is_spoken_of(libs, wanted, name))
+        && (options.kind.is_shared() || options.export_dynamic || is_spoken_of(libs, wanted, name))
 }
 
 // Whether another file's definition may take the place of this one.
 fn is_preemptible(options: &LinkOptions, offered: bool, visibility: u8) -> bool
     ensures { result ≡ (offered && exports.is_shared options.now.kind && visibility == STV_DEFAULT) }
 {
-    offered && is_shared(options.kind) && visibility == STV_DEFAULT
+    offered && options.kind.is_shared() && visibility == STV_DEFAULT
 }
 
 /// The row of a name with these mentions. `wanted` are the names that the libraries want.

@@ -10,7 +10,7 @@ ghost use Rattle.link_checks.specs.Found.{entry_missing, is_defined_at, is_offer
 ghost use Rattle.std.specs.Ordering.{nat_cmp};
 ghost use Rattle.std.specs.Cmp.Lexicographic.{slice_cmp};
 
-use link_binding::{is_offered, is_shared};
+use link_binding::is_offered;
 use link_core::{Bound, LinkOptions, LinkRefusal, LinkStop};
 use link_names::Name;
 use std::alloc::Global;
@@ -76,7 +76,7 @@ pub fn check_entry(alloc: Global, options: &LinkOptions, names: &[Name]) -> Resu
     requires { ascends (map (λ n. n.row.name) names.now) ≡ true }
     ensures { UnlessMemory stops.Memory result (stopped_by (entry_missing options.now names.now)) }
 {
-    if is_shared(options.kind) || is_defined_among(names, options.entry_name.as_bytes()) {
+    if options.kind.is_shared() || is_defined_among(names, options.entry_name.as_bytes()) {
         return Ok(());
     }
     let name = options.entry_name.copy(alloc)?;

@@ -16,6 +16,20 @@ pub enum OutKind {
     Shared,
 }
 
+impl OutKind {
+    ghost use Rattle.link_core.specs.Exports as exports;
+
+    /// Whether it is a shared library.
+    pub fn is_shared(self) -> bool
+        ensures { result ≡ exports.is_shared self }
+    {
+        match self {
+            OutKind::Exec | OutKind::Pie => false,
+            OutKind::Shared => true,
+        }
+    }
+}
+
 /// The options of a link.
 #[derive(Debug, PartialEq, Eq, Drop)]
 pub struct LinkOptions {

@@ -2,7 +2,6 @@
 
 ghost use Rattle.std.specs.Prelude.{◌≡◌, ◌≤◌, nat_lt, length};
 ghost use Rattle.link_core.specs.Aligned as aligned;
-ghost use Rattle.link_core.specs.Exports as exports;
 ghost use Rattle.link_core.specs.Layout as layout;
 ghost use Rattle.link_places.specs.Bounds as meant;
 
@@ -47,17 +46,6 @@ fn base_of(kind: OutKind) -> u128
     }
 }
 
-// Whether a library is made.
-fn is_shared(kind: OutKind) -> bool
-    ensures { result ≡ exports.is_shared kind }
-{
-    match kind {
-        OutKind::Exec => false,
-        OutKind::Pie => false,
-        OutKind::Shared => true,
-    }
-}
-
 // A number, where something is there.
 fn count_if(there: bool, count: u128) -> u128
     ensures exact { result ≡ meant.count_if there count }
@@ -92,7 +80,7 @@ fn has_threads(s: &Segments) -> bool
 fn read_start(kind: OutKind, s: &Segments) -> u128
     ensures { result ≡ meant.read_start kind s.now }
 {
-    let count = header_count(!is_shared(kind), some(s.code.as_slice()), has_threads(s));
+    let count = header_count(!kind.is_shared(), some(s.code.as_slice()), has_threads(s));
     base_of(kind) + (64 + 56 * count)
 }
 

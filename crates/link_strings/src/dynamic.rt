@@ -3,31 +3,19 @@
 ghost use Rattle.std.specs.Prelude.{◌≡◌, ◌++◌, map};
 ghost use Rattle.std.specs.Option.{option_copied, option_to_list};
 ghost use Rattle.std.specs.Result.{IfOk, OnOk};
-ghost use Rattle.link_core.specs.Exports as exports;
 ghost use Rattle.link_core.specs.Strings as strings;
 ghost use Rattle.link_strings.specs.Named.{AreDynamicStrings, AreSymbolNames, name_in, strings_of};
 
 use ifs_bytes::{Memory, Text};
-use link_core::{LinkOptions, OutKind, Plan, Resolution};
+use link_core::{LinkOptions, Plan, Resolution};
 use std::alloc::Global;
-
-// Whether a shared library is made.
-fn is_shared(kind: OutKind) -> bool
-    ensures { result ≡ exports.is_shared kind }
-{
-    match kind {
-        OutKind::Exec => false,
-        OutKind::Pie => false,
-        OutKind::Shared => true,
-    }
-}
 
 // The soname that the made file has.
 #[tactic(auto, unfolding(link_core::specs::Strings::soname_of))]
 fn soname_of(options: &LinkOptions) -> Option<&Text>
     ensures { option_copied result ≡ strings.soname_of options.now }
 {
-    if is_shared(options.kind) {
+    if options.kind.is_shared() {
         options.soname.as_ref()
     } else {
         None

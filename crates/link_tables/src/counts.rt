@@ -6,7 +6,7 @@ ghost use Rattle.link_tables.specs.Capped.{capped};
 ghost use Rattle.link_tables.specs.Counts as meant;
 
 use crate::fills::{fills_in, words_in};
-use crate::names::{is_defined, is_shared, soname_of, strings_room};
+use crate::names::{is_defined, soname_of, strings_room};
 use elf_object::Object;
 use link_core::{EM_X86_64, LinkOptions, Machine, NameRow, Plan, Resolution};
 
@@ -66,7 +66,7 @@ fn entry_count(
 ) -> u128
     ensures { result ≡ meant.entry_count options.now names.now present needed moves calls }
 {
-    let program = !is_shared(options.kind);
+    let program = !options.kind.is_shared();
     needed as u128
         + 7
         + count_if(soname_of(options).is_some(), 1)
@@ -113,7 +113,7 @@ fn counts_by(
     );
     let needed = r.needed.as_slice().len();
     Counts {
-        program: !is_shared(options.kind),
+        program: !options.kind.is_shared(),
         interpreter: interpreter_room(options, number),
         rows: 1 + p.imports.as_slice().len() as u128 + p.exports.as_slice().len() as u128,
         strings: strings_room(options, r, p),

@@ -8,8 +8,8 @@ use crate::state::state_of;
 use elf_object::Object;
 use link_core::{GotSlot, NameRow, OutKind, RefState, Slot};
 
-// How many words a slot has.
-fn slot_words(slot: Slot) -> u128
+/// How many words a slot has.
+pub fn slot_words(slot: Slot) -> u128
     ensures { result ≡ meant.slot_words slot }
 {
     match slot {

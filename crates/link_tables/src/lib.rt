@@ -16,9 +16,11 @@ mod state;
 mod tables;
 
 pub use counts::{Counts, Present, count_all};
+pub use fills::slot_words;
 pub use output::{FilledOutput, Item, Thing};
 pub use places::{aligned, ends_at};
 pub use section::Section;
+pub use state::state_of;
 pub use tables::{code_tables, read_tables, written_tables};
 
 #[cfg(test)]

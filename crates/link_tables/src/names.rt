@@ -2,31 +2,19 @@
 
 ghost use Rattle.std.specs.Prelude.{◌≡◌, ◌≤◌};
 ghost use Rattle.std.specs.Option.{option_copied};
-ghost use Rattle.link_core.specs.Exports as exports;
 ghost use Rattle.link_core.specs.Strings as strings;
 ghost use Rattle.link_tables.specs.Capped.{capped};
 ghost use Rattle.link_tables.specs.Names as meant;
 
 use ifs_bytes::Text;
-use link_core::{Bound, LinkOptions, NameRow, OutKind, Plan, Resolution};
-
-/// Whether a shared library is made.
-pub fn is_shared(kind: OutKind) -> bool
-    ensures { result ≡ exports.is_shared kind }
-{
-    match kind {
-        OutKind::Exec => false,
-        OutKind::Pie => false,
-        OutKind::Shared => true,
-    }
-}
+use link_core::{Bound, LinkOptions, NameRow, Plan, Resolution};
 
 /// The soname that the made file has.
 #[tactic(auto, unfolding(link_core::specs::Strings::soname_of))]
 pub fn soname_of(options: &LinkOptions) -> Option<&Text>
     ensures { option_copied result ≡ strings.soname_of options.now }
 {
-    if is_shared(options.kind) {
+    if options.kind.is_shared() {
         options.soname.as_ref()
     } else {
         None

@@ -79,7 +79,7 @@ fn local_state(objects: &[Object], object: u32, row: u32) -> RefState
     }
 }
 
-/// What a symbol is.
+/// What a symbol is to the made file, by the names of the link; a name that isn't there stands for 0.
 #[tactic(auto, unfolding(crate::specs::States::state_of))]
 pub fn state_of(objects: &[Object], names: &[NameRow], symbol: SymbolId) -> RefState
     ensures { result ≡ meant.state_of objects.now names.now symbol }

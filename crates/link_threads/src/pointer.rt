@@ -3,7 +3,6 @@
 ghost use Rattle.std.specs.Prelude.{◌≡◌, [], false, nat_lt, slice_index_or, IfOk};
 ghost use Rattle.std.specs.List.{list_any};
 ghost use Rattle.link_core.specs.Entries.{flags_value};
-ghost use Rattle.link_core.specs.Exports as exports;
 ghost use Rattle.link_core.specs.Planned.{Planned};
 ghost use Rattle.link_core.specs.References.{uses_of};
 ghost use Rattle.link_pieces.specs.Flags.{rows};
@@ -11,7 +10,7 @@ ghost use Rattle.link_threads.specs.Pointer as meant;
 
 use elf_object::{Object, Reference};
 use ifs_bytes::Memory;
-use link_core::{LinkOptions, Machine, Member, OutKind, RefClass, Resolution};
+use link_core::{LinkOptions, Machine, Member, RefClass, Resolution};
 use link_pieces::kept_flags;
 use std::alloc::Global;
 
@@ -108,17 +107,6 @@ pub fn has_initial_exec<M: Machine>(
     Ok(is_in_any(machine, &all, objects))
 }
 
-// Whether a library is made.
-fn is_shared(kind: OutKind) -> bool
-    ensures { result ≡ exports.is_shared kind }
-{
-    match kind {
-        OutKind::Exec => false,
-        OutKind::Pie => false,
-        OutKind::Shared => true,
-    }
-}
-
 /// Whether the made file's DT_FLAGS isn't 0: it is to be bound when it is loaded, or it is a library with a
 /// reference of the class initial exec.
 #[tactic(auto, unfolding(link_core::specs::Entries::flags_value))]
@@ -135,7 +123,7 @@ pub fn has_flags<M: Machine>(
     if options.bind_now {
         return Ok(true);
     }
-    if !is_shared(options.kind) {
+    if !options.kind.is_shared() {
         return Ok(false);
     }
     Ok(has_initial_exec(alloc, machine, r.dropped.as_slice(), objects)?)

@@ -19,7 +19,7 @@ ghost use Rattle.link_wants.specs.Wants.{missing_in, refused, undefined_by, unde
 use crate::least::least_missing;
 use ifs_bytes::Text;
 use ifs_interface::SharedLib;
-use link_binding::{HeldLib, is_shared};
+use link_binding::HeldLib;
 use link_core::{LinkOptions, LinkRefusal, LinkStop};
 use link_names::Name;
 use std::alloc::Global;
@@ -139,7 +139,7 @@ pub fn check_libraries<S: SharedLib>(
     requires limit { length libs.now ≤ 256 }
     ensures { UnlessMemory stops.Memory result (stopped_by (undefined_by (is_missing_by names.now (libraries_seen S.facts libs.now) sections.now) options.now (libraries_seen S.facts libs.now))) }
 {
-    if is_shared(options.kind) || options.allow_shlib_undefined {
+    if options.kind.is_shared() || options.allow_shlib_undefined {
         return Ok(());
     }
     match first_missing(names, libs, sections) {

@@ -9,7 +9,7 @@ ghost use Rattle.link_tables.specs.Filled.{outputs_filled};
 ghost use Rattle.link_where.specs.Named as meant;
 ghost use Rattle.link_where.specs.Tables.{IsOf};
 
-use crate::tables::{There, count_if, is_program};
+use crate::tables::{There, count_if};
 use link_core::{Layout, OutClass, OutKind, OutSection, Plan};
 use link_places::same_class;
 use link_tables::FilledOutput;
@@ -123,7 +123,7 @@ pub fn named_section<'a>(
         → option_copied result ≡ places.named_section j l.now name.now }
 {
     let there = There {
-        program: is_program(kind),
+        program: !kind.is_shared(),
         moves: moves_there,
         calls: p.plt.as_slice().len() > 0,
         words: words_there,

@@ -42,16 +42,6 @@ pub struct TablePositions {
     pub got_plt: usize,
 }
 
-// Whether a file of this kind is a program.
-pub(crate) fn is_program(kind: OutKind) -> bool
-    ensures { result ≡ meant.is_program kind }
-{
-    match kind {
-        OutKind::Exec | OutKind::Pie => true,
-        OutKind::Shared => false,
-    }
-}
-
 // Whether a section is neither only read, nor executed alone, nor of threads.
 fn is_data(s: &OutSection) -> bool
     ensures { result ≡ meant.is_data s.now.flags }
@@ -147,7 +137,7 @@ pub fn table_positions(
 {
     let sections = l.sections.as_slice();
     let there = There {
-        program: is_program(kind),
+        program: !kind.is_shared(),
         moves: moves_there,
         calls: p.plt.as_slice().len() > 0,
         words: words_there,
