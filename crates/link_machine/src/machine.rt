@@ -51,7 +51,8 @@ pub trait Machine {
 
     /// The length in bytes of the procedure linkage table's header: 16 or 32.
     fn header_len(&self) -> u64
-        ensures { result ≡ rules.header_len };
+        ensures is { result ≡ rules.header_len }
+        ensures small { rules.header_len ≤ 32 };
 
     /// The header of a procedure linkage table at the address `at`, for a table of its slots at `got_plt`.
     /// Bytes past the header's length are 0.

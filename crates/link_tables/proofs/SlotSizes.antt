@@ -79,7 +79,7 @@ desc_has types states.Abs = record { words_are = refl; fills_are = refl }
 desc_has types states.Zero = record { words_are = refl; fills_are = refl }
 desc_has types states.Imp = record { words_are = refl; fills_are = refl }
 
-slots_have : (types : DynamicTypes) (kind : OutKind) (state : RefState) (slot : Slot) → Has (slots_for types kind state slot) (slot_words slot) (slot_fills kind state slot)
+pub slots_have : (types : DynamicTypes) (kind : OutKind) (state : RefState) (slot : Slot) → Has (slots_for types kind state slot) (slot_words slot) (slot_fills kind state slot)
 unfolding slots_for
 slots_have types kind state slots.Got = got_has types kind state
 slots_have types kind state slots.Tp = tp_has types kind state
@@ -87,17 +87,17 @@ slots_have types kind state slots.TlsPair = pair_has types kind state
 slots_have types kind state slots.Module = module_has types kind
 slots_have types kind state slots.Desc = desc_has types state
 
-state_is : (j : Planned) (id : SymbolId) → symbol_state j id ≡ state_of j.objects j.names.names id
+pub state_is : (j : Planned) (id : SymbolId) → symbol_state j id ≡ state_of j.objects j.names.names id
 unfolding symbol_state state_of
 state_is j (ids.Name n) = refl
 state_is j (ids.Local object row) = refl
 state_is j ids.Module = refl
 
-words_of : (j : Planned) (g : GotSlot) → length (slots_by j g).words ≡ slot_words g.slot
+pub words_of : (j : Planned) (g : GotSlot) → length (slots_by j g).words ≡ slot_words g.slot
 unfolding slots_by
 words_of j g = (slots_have j.rules.dynamic j.options.kind (symbol_state j g.symbol) g.slot).words_are
 
-fills_of : (j : Planned) (g : GotSlot) → length (slots_by j g).fills ≡ slot_fills j.options.kind (state_of j.objects j.names.names g.symbol) g.slot
+pub fills_of : (j : Planned) (g : GotSlot) → length (slots_by j g).fills ≡ slot_fills j.options.kind (state_of j.objects j.names.names g.symbol) g.slot
 unfolding slots_by
 fills_of j g =
     (slots_have j.rules.dynamic j.options.kind (symbol_state j g.symbol) g.slot).fills_are

@@ -14,6 +14,7 @@ mod places;
 mod section;
 mod state;
 mod tables;
+mod there;
 
 pub use counts::{Counts, Present, count_all};
 pub use fills::slot_words;
@@ -22,6 +23,7 @@ pub use places::{aligned, ends_at};
 pub use section::Section;
 pub use state::state_of;
 pub use tables::{code_tables, read_tables, written_tables};
+pub use there::{has_moves, has_words};
 
 #[cfg(test)]
 mod tests;

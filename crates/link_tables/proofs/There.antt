@@ -1,0 +1,22 @@
+-- Which tables are there, by what is counted.
+use Rattle.std.proofs.Common.{◌≡◌, ℕ, ◌+◌, Bool, length, ap, sym, ◌∙◌, arith}
+use Rattle.std.specs.Prelude.{nat_lt, ◌||◌}
+use Rattle.std.proofs.lemmas.Bool.Decides.{nat_tests}
+use Rattle.link_core.specs.Entries.{rela_dyn_count}
+use Rattle.link_core.specs.Planned.{Planned}
+use Rattle.link_core.specs.Slots.{fill_count, word_count}
+use Rattle.link_tables.specs.Capped.{capped}
+use Rattle.link_tables.specs.Fills.{fills_in, words_in}
+use Rattle.link_tables.proofs.Counted.{some_capped}
+use Rattle.link_tables.proofs.SlotSizes.{fills_counted, words_counted}
+
+pub words_there : (j : Planned) → nat_lt 0 (capped (words_in j.plan.got)) ≡ nat_lt 0 (word_count j)
+words_there j = some_capped (words_in j.plan.got) ∙ ap (λ (n : ℕ). nat_lt 0 n) (sym (words_counted j))
+
+either_there : (m n : ℕ) → (nat_lt 0 m || nat_lt 0 (capped n)) ≡ nat_lt 0 (n + m)
+either_there m n = grind (arith, nat_tests)
+
+pub moves_there : (j : Planned) → (nat_lt 0 (length j.plan.moves) || nat_lt 0 (capped (fills_in j.objects j.names.names j.options.kind j.plan.got))) ≡ nat_lt 0 (rela_dyn_count j)
+moves_there j =
+    either_there (length j.plan.moves) (fills_in j.objects j.names.names j.options.kind j.plan.got)
+    ∙ ap (λ (n : ℕ). nat_lt 0 (n + length j.plan.moves)) (sym (fills_counted j))
