@@ -5,4 +5,4 @@ pub mod Multiples
 pub mod NameSizes
 pub mod Shown
 pub mod SlotSizes
-pub mod There
+pub mod TablesThere

@@ -17,9 +17,9 @@ use Rattle.link_tables.specs.Fills.{by_state, fills_in, if_library, if_moved, sl
 use Rattle.link_tables.specs.States.{state_of}
 
 -- so many words, and so many relocations
-record Has (s : Slots) (words fills : ℕ) : Type 0 where
-  words_are : length s.words ≡ words
-  fills_are : length s.fills ≡ fills
+pub record Has (s : Slots) (words fills : ℕ) : Type 0 where
+  pub words_are : length s.words ≡ words
+  pub fills_are : length s.fills ≡ fills
 
 got_has : (types : DynamicTypes) (kind : OutKind) (state : RefState) → Has (got_slot types kind state) 1 (by_state state (if_moved kind) 1)
 unfolding got_slot

@@ -15,6 +15,6 @@ returns g c =
     let j : Planned = record { rules = rules; options = options; objects = objects; names = r; plan = p } in
     c.counts_by.ensures
     ∙ ap (λ (n : ℕ). counts_by n c.header_len.result options objects r p c.args.present) c.number.ensures
-    ∙ ap (λ (n : ℕ). counts_by rules.number n options objects r p c.args.present) c.header_len.ensures
+    ∙ ap (λ (n : ℕ). counts_by rules.number n options objects r p c.args.present) c.header_len.ensures.is
     ∙ ap (λ (present : Present). counts_by rules.number rules.header_len options objects r p present) c.requires
     ∙ counted j
