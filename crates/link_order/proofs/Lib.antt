@@ -1,0 +1,5 @@
+pub mod Ascending
+pub mod Numbered
+pub mod InObject
+pub mod InLink
+pub mod Runs
