@@ -3,3 +3,4 @@ pub mod Numbered
 pub mod InObject
 pub mod InLink
 pub mod Runs
+pub mod Searched

@@ -6,8 +6,9 @@ use Rattle.link_core.specs.Patch.{uses_at}
 use Rattle.link_core.specs.Planned.{uses_by}
 use Rattle.link_core.specs.References.{Use, at_of}
 use Rattle.link_core.specs.Relocations.{same_place, use_at}
-use Rattle.link_order.specs.Laws.{SectionsAreRuns, UsesAreFound}
-use Rattle.link_order.specs.Order.{Ascends, is_before, is_of, use_before}
+use Rattle.link_core.specs.declared.refusal.At.{At}
+use Rattle.link_order.specs.Laws.{SectionsAreRuns, UsesAreFound, count_before, count_of}
+use Rattle.link_order.specs.Order.{Ascends, at_before, is_before, is_of, use_before}
 use Rattle.link_order.proofs.Ascending.{all_weaker}
 use Rattle.link_order.proofs.InLink.{uses_in_order}
 
@@ -70,17 +71,18 @@ module _ {A : Type 0} (order : A → A → Bool) (q p : A → Bool) (q_first : (
   run_of (x ∷ xs) a = run_by x xs (q x) (p x) refl refl a.0 (run_of xs a.1)
 
 module _ (object section : ℕ) where
-  not_before : (a b : Use) → use_before a b ≡ true → is_before object section a ≡ false → is_before object section b ≡ false
+  pub not_before : (a b : At) → at_before a b ≡ true → is_before object section a ≡ false → is_before object section b ≡ false
   not_before a b h e = grind (arith, nat_tests)
 
-  not_of : (a b : Use) → use_before a b ≡ true → is_before object section a ≡ false → is_of object section a ≡ false → is_of object section b ≡ false
+  pub not_of : (a b : At) → at_before a b ≡ true → is_before object section a ≡ false → is_of object section a ≡ false → is_of object section b ≡ false
   not_of a b h e f = grind (arith, nat_tests)
 
-  either : (a : Use) → is_before object section a ≡ true → is_of object section a ≡ false
+  pub either : (a : At) → is_before object section a ≡ true → is_of object section a ≡ false
   either a e = grind (arith, nat_tests)
 
-  pub section_run : (us : List Use) → Ascends use_before us → filter (is_of object section) us ≡ take (length (filter (is_of object section) us)) (drop (length (filter (is_before object section) us)) us)
-  section_run us a = run_of use_before (is_before object section) (is_of object section) not_before not_of either us a
+  pub section_run : (us : List Use) → Ascends use_before us → filter (λ u. is_of object section (at_of u)) us ≡ take (count_of object section us) (drop (count_before object section us) us)
+  section_run us a =
+      run_of use_before (λ u. is_before object section (at_of u)) (λ u. is_of object section (at_of u)) (λ x y. not_before (at_of x) (at_of y)) (λ x y. not_of (at_of x) (at_of y)) (λ x. either (at_of x)) us a
 
 pub sections_runs : SectionsAreRuns
 unfolding uses_at

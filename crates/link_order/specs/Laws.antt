@@ -26,10 +26,18 @@ UsesAreFound =
     (j : Planned) (i : ℕ) (u : Use) → All IsRead j.objects → slice_get (uses_by j) i ≡ Some u
     → use_at j (at_of u) ≡ Some u
 
--- and the references of a section stand together, behind those that are before them
+-- ---- the references of a section
+
+-- how many references stand before those of a section, and how many are of it
+abbrev pub count_before : ℕ → ℕ → List Use → ℕ
+count_before object section us = length (filter (λ u. is_before object section (at_of u)) us)
+
+abbrev pub count_of : ℕ → ℕ → List Use → ℕ
+count_of object section us = length (filter (λ u. is_of object section (at_of u)) us)
+
+-- the references of a section stand together, behind those before them
 abbrev pub SectionsAreRuns : Type 0
 SectionsAreRuns =
     (j : Planned) (object section : ℕ) → All IsRead j.objects
     → uses_at j object section
-    ≡ take (length (filter (is_of object section) (uses_by j)))
-    (drop (length (filter (is_before object section) (uses_by j))) (uses_by j))
+    ≡ take (count_of object section (uses_by j)) (drop (count_before object section (uses_by j)) (uses_by j))
