@@ -4,3 +4,4 @@ pub mod InObject
 pub mod InLink
 pub mod Runs
 pub mod Searched
+pub mod Placed

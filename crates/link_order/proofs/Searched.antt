@@ -1,20 +1,18 @@
 -- Binary searches in lists that ascend.
-use Rattle.std.proofs.Common.{◌≡◌, ℕ, suc, zero, ◌+◌, ◌-◌, ◌<◌, ◌≤◌, Bool, true, false, cond, List, [], ◌∷◌, length, map, filter, drop, take, get_or, Some, refl, sym, subst, ap, ◌∙◌, arith}
+use Rattle.std.proofs.Common.{◌≡◌, ℕ, suc, zero, ◌+◌, ◌-◌, ◌<◌, ◌≤◌, Bool, true, false, cond, List, [], ◌∷◌, length, map, filter, drop, take, get_or, refl, sym, subst, ap, ◌∙◌, arith}
 use Rattle.std.proofs.lemmas.Bool.Decides.{nat_tests}
 use Rattle.std.specs.List.{AllByRecursion, AllWithin}
 use Rattle.std.specs.List.Sorted.{IsPartitionedBy, IsPartitionPoint}
-use Rattle.std.specs.Prelude.{All, slice_range}
-use Rattle.elf_object.specs.Object.{IsRead}
+use Rattle.std.specs.Prelude.{slice_range}
 use Rattle.link_core.specs.declared.refusal.At.{At}
-use Rattle.link_core.specs.Patch.{uses_at}
-use Rattle.link_core.specs.Planned.{Planned, uses_by}
-use Rattle.link_core.specs.References.{Use, at_of}
+use Rattle.link_core.specs.Planned.{uses_by}
+use Rattle.link_core.specs.References.{at_of}
 use Rattle.link_order.specs.Laws.{count_before, count_of}
 use Rattle.link_order.specs.Order.{Ascends, at_before, is_before, is_of, use_before}
 use Rattle.link_order.specs.Run.{IsRunOf}
 use Rattle.link_order.proofs.Ascending.{ascends_map}
 use Rattle.link_order.proofs.InLink.{uses_in_order}
-use Rattle.link_order.proofs.Runs.{either, not_of, sections_runs}
+use Rattle.link_order.proofs.Runs.{either, sections_runs}
 
 module _ {X : Type 0} where
   all_at : (P : X → Type 0) (xs : List X) (i : ℕ) (d : X) → i < length xs → AllByRecursion P xs → P (get_or xs i d)
@@ -23,10 +21,10 @@ module _ {X : Type 0} where
   all_at P (x ∷ xs) (suc i) d lt h = all_at P xs i d (omega (arith, lt)) h.1
 
   -- what holds within the rest of a list
-  behind_first : (P : X → Type 0) (x : X) (xs : List X) (low high : ℕ) → AllWithin P (x ∷ xs) (suc low) (suc high) → AllWithin P xs low high
+  pub behind_first : (P : X → Type 0) (x : X) (xs : List X) (low high : ℕ) → AllWithin P (x ∷ xs) (suc low) (suc high) → AllWithin P xs low high
   behind_first P x xs low high h = λ k d le lt. h (suc k) d (omega (arith, le)) (omega (arith, lt))
 
-  from_start : (P : X → Type 0) (x : X) (xs : List X) (high : ℕ) → AllWithin P (x ∷ xs) zero (suc high) → AllWithin P xs zero high
+  pub from_start : (P : X → Type 0) (x : X) (xs : List X) (high : ℕ) → AllWithin P (x ∷ xs) zero (suc high) → AllWithin P xs zero high
   from_start P x xs high h = λ k d le lt. h (suc k) d (omega arith) (omega (arith, lt))
 
   pub all_behind : (P : X → Type 0) (xs : List X) (n : ℕ) → AllWithin P xs n (length xs) → AllByRecursion P (drop n xs)
@@ -84,11 +82,11 @@ module _ {X : Type 0} (order : X → X → Bool) where
 
 -- ---- the run of a section
 
-all_always : {X : Type 0} (P : X → Type 0) → ((x : X) → P x) → (xs : List X) → AllByRecursion P xs
+pub all_always : {X : Type 0} (P : X → Type 0) → ((x : X) → P x) → (xs : List X) → AllByRecursion P xs
 all_always P f [] = tt
 all_always P f (x ∷ xs) = (f x, all_always P f xs)
 
-abbrev SplitsAt : {X : Type 0} → (X → Bool) → List X → ℕ → Type 0
+abbrev pub SplitsAt : {X : Type 0} → (X → Bool) → List X → ℕ → Type 0
 SplitsAt p xs n = IsPartitionedBy p xs → IsPartitionPoint (λ y. p y ≡ true) (λ y. p y ≡ false) xs n
 
 module _ (object section : ℕ) where
@@ -98,23 +96,34 @@ module _ (object section : ℕ) where
   of_falls : (a b : At) → at_before a b ≡ true → is_before object section a ≡ false → is_of object section b ≡ true → is_of object section a ≡ true
   of_falls a b h good e = grind (arith, nat_tests)
 
-  module _ (places : List At) (start count : ℕ) (in_order : Ascends at_before places) (within : start ≤ length places) (some : count ≤ length (drop start places)) (first : SplitsAt (is_before object section) places start) (second : SplitsAt (is_of object section) (drop start places) count) where
-    split : IsPartitionPoint (λ y. is_before object section y ≡ true) (λ y. is_before object section y ≡ false) places start
-    split =
-        first (partitioned at_before (is_before object section) (λ a. Unit {0}) before_falls places in_order (all_always (λ a. Unit {0}) (λ a. tt) places))
+  module _ {X : Type 0} (at : X → At) where
+    abbrev before_by : X → Bool
+    before_by x = is_before object section (at x)
 
-    pub start_is : length (filter (is_before object section) places) ≡ start
-    start_is = count_split (is_before object section) places start within split
+    abbrev of_by : X → Bool
+    of_by x = is_of object section (at x)
 
-    rest_split : IsPartitionPoint (λ y. is_of object section y ≡ true) (λ y. is_of object section y ≡ false) (drop start places) count
-    rest_split =
-        second
-        (partitioned at_before (is_of object section) (λ a. is_before object section a ≡ false) of_falls (drop start places) (ascends_drop at_before start places in_order) (all_behind (λ a. is_before object section a ≡ false) places start split.1))
+    abbrev order_by : X → X → Bool
+    order_by x y = at_before (at x) (at y)
 
-    pub count_is : length (filter (is_of object section) places) ≡ count
-    count_is =
-        count_behind (is_of object section) (is_before object section) (either object section) places start within split.0
-        ∙ count_split (is_of object section) (drop start places) count some rest_split
+    module _ (xs : List X) (start count : ℕ) (in_order : Ascends order_by xs) (within : start ≤ length xs) (some : count ≤ length (drop start xs)) (first : SplitsAt before_by xs start) (second : SplitsAt of_by (drop start xs) count) where
+      split : IsPartitionPoint (λ y. before_by y ≡ true) (λ y. before_by y ≡ false) xs start
+      split =
+          first
+          (partitioned order_by before_by (λ x. Unit {0}) (λ x y. before_falls (at x) (at y)) xs in_order (all_always (λ x. Unit {0}) (λ x. tt) xs))
+
+      pub start_is : length (filter before_by xs) ≡ start
+      start_is = count_split before_by xs start within split
+
+      rest_split : IsPartitionPoint (λ y. of_by y ≡ true) (λ y. of_by y ≡ false) (drop start xs) count
+      rest_split =
+          second
+          (partitioned order_by of_by (λ x. before_by x ≡ false) (λ x y. of_falls (at x) (at y)) (drop start xs) (ascends_drop order_by start xs in_order) (all_behind (λ x. before_by x ≡ false) xs start split.1))
+
+      pub count_is : length (filter of_by xs) ≡ count
+      count_is =
+          count_behind of_by before_by (λ x. either object section (at x)) xs start within split.0
+          ∙ count_split of_by (drop start xs) count some rest_split
 
 range_by : {X : Type 0} (us : List X) (before of start count : ℕ) → before ≡ start → of ≡ count → take of (drop before us) ≡ slice_range us start (start + count)
 range_by us before of start count e f =
@@ -129,9 +138,9 @@ run_found places rest object section start count within is some first second j r
     let some_behind : count ≤ length (drop start places) = subst (λ (xs : List At). count ≤ length xs) is some in
     let behind : SplitsAt (is_of object section) (drop start places) count = subst (λ (xs : List At). SplitsAt (is_of object section) xs count) is second in
     let before_is : count_before object section us ≡ start =
-        sym (count_mapped at_of (is_before object section) us)
-        ∙ (ap (λ xs. length (filter (is_before object section) xs)) same ∙ start_is object section places start count in_order within some_behind first behind) in
+    sym (count_mapped at_of (is_before object section) us)
+    ∙ (ap (λ xs. length (filter (is_before object section) xs)) same ∙ start_is object section (λ a. a) places start count in_order within some_behind first behind) in
     let of_is : count_of object section us ≡ count =
-        sym (count_mapped at_of (is_of object section) us)
-        ∙ (ap (λ xs. length (filter (is_of object section) xs)) same ∙ count_is object section places start count in_order within some_behind first behind) in
+    sym (count_mapped at_of (is_of object section) us)
+    ∙ (ap (λ xs. length (filter (is_of object section) xs)) same ∙ count_is object section (λ a. a) places start count in_order within some_behind first behind) in
     sections_runs j object section read ∙ range_by us (count_before object section us) (count_of object section us) start count before_is of_is

@@ -5,9 +5,11 @@
 #![tactic(auto)]
 
 mod laws;
+mod position;
 mod read;
 mod run;
 
 pub use laws::{references_ascend, sections_are_runs, uses_are_found, uses_ascend};
+pub use position::position_of;
 pub use read::all_are_read;
 pub use run::run_of;
