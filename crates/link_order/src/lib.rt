@@ -13,3 +13,6 @@ pub use laws::{references_ascend, sections_are_runs, uses_are_found, uses_ascend
 pub use position::position_of;
 pub use read::all_are_read;
 pub use run::run_of;
+
+#[cfg(test)]
+mod tests;
