@@ -5,3 +5,4 @@ pub mod InLink
 pub mod Runs
 pub mod Searched
 pub mod Placed
+pub mod Taken

@@ -21,7 +21,7 @@ same_not_before a b h = grind (arith, nat_tests)
 none_behind : (a b wanted : At) → at_before a wanted ≡ false → same_place a wanted ≡ false → at_before a b ≡ true → same_place b wanted ≡ false
 none_behind a b wanted e f h = grind (arith, nat_tests)
 
-at_falls : (wanted a b : At) → at_before a b ≡ true → Unit {0} → at_before b wanted ≡ true → at_before a wanted ≡ true
+pub at_falls : (wanted a b : At) → at_before a b ≡ true → Unit {0} → at_before b wanted ≡ true → at_before a wanted ≡ true
 at_falls wanted a b h good e = grind (arith, nat_tests)
 
 none_found : {X : Type 0} (p : X → Bool) (xs : List X) → AllByRecursion (λ x. p x ≡ false) xs → find p xs ≡ None

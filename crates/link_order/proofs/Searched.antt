@@ -125,7 +125,7 @@ module _ (object section : ℕ) where
           count_behind of_by before_by (λ x. either object section (at x)) xs start within split.0
           ∙ count_split of_by (drop start xs) count some rest_split
 
-range_by : {X : Type 0} (us : List X) (before of start count : ℕ) → before ≡ start → of ≡ count → take of (drop before us) ≡ slice_range us start (start + count)
+pub range_by : {X : Type 0} (us : List X) (before of start count : ℕ) → before ≡ start → of ≡ count → take of (drop before us) ≡ slice_range us start (start + count)
 range_by us before of start count e f =
     let same : of ≡ start + count - start = omega (arith, f) in
     ap (λ n. take n (drop before us)) same ∙ ap (λ n. take (start + count - start) (drop n us)) e
