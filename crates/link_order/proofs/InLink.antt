@@ -25,7 +25,8 @@ same_object n b h = grind (arith, nat_tests)
 abbrev use_of : ℕ × ObjectRecord → Reference → Use
 use_of o r = record { object = o.0; record_of = o.1; reference = r }
 
-later_reference : (o : ℕ × ObjectRecord) (a b : Reference) → reference_before a b ≡ true → use_before (use_of o a) (use_of o b) ≡ true
+later_reference : (o : ℕ × ObjectRecord) (a b : Reference) → reference_before a b ≡ true
+    → use_before (use_of o a) (use_of o b) ≡ true
 later_reference o a b h = same_object o.0 (reference_before a b) h
 
 module _ (dropped : List Member) where
@@ -38,16 +39,20 @@ module _ (dropped : List Member) where
       record {
         numbered = all_mapped (use_of o) (λ u. u.object ≡ o.0) (λ r. refl) (filter kept o.1.references);
         ascends =
-            ascends_map (use_of o) reference_before use_before (later_reference o) (filter kept o.1.references)
-            (ascends_filter reference_before kept o.1.references (references_in_order o.1.bytes o.1 read.by_bytes));
+            ascends_map (use_of o) reference_before use_before (later_reference o)
+            (filter kept o.1.references)
+            (ascends_filter reference_before kept o.1.references
+            (references_in_order o.1.bytes o.1 read.by_bytes));
       }
 
-  all_give : (i : ℕ) (os : List ObjectRecord) → AllByRecursion IsRead os → AllByRecursion GivesAt (enumerate_from i os)
+  all_give : (i : ℕ) (os : List ObjectRecord) → AllByRecursion IsRead os
+      → AllByRecursion GivesAt (enumerate_from i os)
   all_give i [] h = tt
   all_give i (o ∷ os) h = (object_gives (i, o) h.0, all_give (i + 1) os h.1)
 
 pub uses_in_order : UsesAscend
 unfolding uses_of
 uses_in_order dropped objects read =
-    flat_ascends (uses_in dropped) (λ o. o.0) (λ u. u.object) use_before later_object (enumerate_from 0 objects)
+    flat_ascends (uses_in dropped) (λ o. o.0) (λ u. u.object) use_before later_object
+    (enumerate_from 0 objects)
     (all_give dropped 0 objects (recursion_from_All IsRead objects read)) (enumerate_ascends 0 objects)

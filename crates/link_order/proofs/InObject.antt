@@ -25,15 +25,18 @@ use Rattle.link_order.proofs.Numbered.{Gives, flat_ascends, range_ascends}
 later_section : (a b : Reference) → a.section < b.section → reference_before a b ≡ true
 later_section a b h = grind (arith, nat_tests)
 
-later_entry : (file : List ℕ) (table : SectionHeader) (x y : ℕ) → nat_lt x y ≡ true → reference_before (entry_of file table x) (entry_of file table y) ≡ true
+later_entry : (file : List ℕ) (table : SectionHeader) (x y : ℕ) → nat_lt x y ≡ true
+    → reference_before (entry_of file table x) (entry_of file table y) ≡ true
 unfolding entry_of
 later_entry file table x y h = grind (arith, nat_tests)
 
-pub all_mapped : {A B : Type 0} (f : A → B) (P : B → Type 0) → ((x : A) → P (f x)) → (xs : List A) → AllByRecursion P (map f xs)
+pub all_mapped : {A B : Type 0} (f : A → B) (P : B → Type 0) → ((x : A) → P (f x)) → (xs : List A)
+    → AllByRecursion P (map f xs)
 all_mapped f P g [] = tt
 all_mapped f P g (x ∷ xs) = (g x, all_mapped f P g xs)
 
-find_step : {A : Type 0} (p : A → Bool) (x y : A) (b : Bool) (rest : Option A) → p x ≡ b → cond b (Some x) rest ≡ Some y → (rest ≡ Some y → p y ≡ true) → p y ≡ true
+find_step : {A : Type 0} (p : A → Bool) (x y : A) (b : Bool) (rest : Option A) → p x ≡ b
+    → cond b (Some x) rest ≡ Some y → (rest ≡ Some y → p y ≡ true) → p y ≡ true
 find_step p x y true rest e h next = grind (arith)
 find_step p x y false rest e h next = next h
 
@@ -53,7 +56,8 @@ module _ (file : List ℕ) (h : Header) (p : Parts) where
   unfolding entry_of
   entry_in table s e k = e
 
-  entries_numbered : (s : ℕ) (place : Option ℕ) → first_table file h s ≡ place → AllByRecursion (λ r. r.section ≡ s) (entries_of file h place)
+  entries_numbered : (s : ℕ) (place : Option ℕ) → first_table file h s ≡ place
+      → AllByRecursion (λ r. r.section ≡ s) (entries_of file h place)
   unfolding first_table
   entries_numbered s None e = tt
   entries_numbered s (Some i) e =
@@ -61,25 +65,33 @@ module _ (file : List ℕ) (h : Header) (p : Parts) where
       let passes = found_passes (λ j. is_table_for s (section_in file h j)) (places 0 h.shnum) i e in
       let same = both_second (is_table table) (table.info == s) passes in
       let is : table.info ≡ s = grind (arith, nat_tests, same) in
-      all_mapped (entry_of file table) (λ r. r.section ≡ s) (entry_in table s is) (places 0 (entry_count table))
+      all_mapped (entry_of file table) (λ r. r.section ≡ s) (entry_in table s is)
+      (places 0 (entry_count table))
 
   entries_ascend : (place : Option ℕ) → Ascends reference_before (entries_of file h place)
   entries_ascend None = tt
   entries_ascend (Some i) =
       let table = section_in file h i in
-      ascends_map (entry_of file table) nat_lt reference_before (later_entry file table) (places 0 (entry_count table)) (range_ascends 0 _)
+      ascends_map (entry_of file table) nat_lt reference_before (later_entry file table)
+      (places 0 (entry_count table)) (range_ascends 0 _)
 
-  numbered_if : (b : Bool) (s : ℕ) → AllByRecursion (λ r. r.section ≡ s) (cond b (entries_of file h (first_table file h s)) [])
+  numbered_if : (b : Bool) (s : ℕ)
+      → AllByRecursion (λ r. r.section ≡ s) (cond b (entries_of file h (first_table file h s)) [])
   numbered_if true s = entries_numbered s (first_table file h s) refl
   numbered_if false s = tt
 
-  ascend_if : (b : Bool) (s : ℕ) → Ascends reference_before (cond b (entries_of file h (first_table file h s)) [])
+  ascend_if : (b : Bool) (s : ℕ) → Ascends reference_before
+      (cond b (entries_of file h (first_table file h s)) [])
   ascend_if true s = entries_ascend (first_table file h s)
   ascend_if false s = tt
 
   section_gives : (s : ℕ) → GivesAt s
   unfolding references_at
-  section_gives s = record { numbered = numbered_if (is_loadable_at file h p s) s; ascends = ascend_if (is_loadable_at file h p s) s }
+  section_gives s = record {
+    numbered = numbered_if (is_loadable_at file h p s) s;
+    ascends =
+        ascend_if (is_loadable_at file h p s) s;
+  }
 
   all_give : (xs : List ℕ) → AllByRecursion GivesAt xs
   all_give [] = tt
@@ -88,18 +100,21 @@ module _ (file : List ℕ) (h : Header) (p : Parts) where
   in_order : Ascends reference_before (references_of file h p)
   unfolding references_of
   in_order =
-      flat_ascends (references_at file h p) (λ s. s) (λ r. r.section) reference_before later_section (places 0 h.shnum) (all_give (places 0 h.shnum)) (range_ascends 0 _)
+      flat_ascends (references_at file h p) (λ s. s) (λ r. r.section) reference_before later_section
+      (places 0 h.shnum) (all_give (places 0 h.shnum)) (range_ascends 0 _)
 
 -- ---- the object
 
-bound : {A B E : Type 0} (r : Result A E) (f : A → Result B E) (y : B) → r >>= f ≡ Ok y → (x : A) × (f x ≡ Ok y)
+bound : {A B E : Type 0} (r : Result A E) (f : A → Result B E) (y : B) → r >>= f ≡ Ok y
+    → (x : A) × (f x ≡ Ok y)
 bound (Ok x) f y h = (x, h)
 bound (Err e) f y h = absurd (cc)
 
 ok_same : {A E : Type 0} (r : Result A E) (x y : A) → r ≡ Ok x → r ≡ Ok y → x ≡ y
 ok_same r x y h k = cc
 
-object_in_order : (file : List ℕ) (h : Header) (p : Parts) → Ascends reference_before (object_at file h p).references
+object_in_order : (file : List ℕ) (h : Header) (p : Parts)
+    → Ascends reference_before (object_at file h p).references
 unfolding object_at
 object_in_order file h p = in_order file h p
 

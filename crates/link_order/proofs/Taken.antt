@@ -1,5 +1,5 @@
 -- The same for items that each have a reference, as a slice of references with what else is known of each.
-use Rattle.std.proofs.Common.{◌≡◌, ℕ, suc, zero, ◌+◌, ◌-◌, ◌≤◌, Bool, true, List, [], ◌∷◌, length, map, filter, drop, take, Some, cond, false, refl, sym, subst, ap, ◌∙◌}
+use Rattle.std.proofs.Common.{◌≡◌, ℕ, suc, zero, ◌+◌, ◌-◌, ◌≤◌, Bool, true, List, [], ◌∷◌, length, map, drop, take, Some, cond, false, refl, subst, ap, ◌∙◌}
 use Rattle.std.specs.List.{AllByRecursion, find, slice_get}
 use Rattle.std.specs.Prelude.{All, option_map, slice_range}
 use Rattle.elf_object.specs.Object.{IsRead}
@@ -17,7 +17,8 @@ use Rattle.link_order.proofs.Runs.{sections_runs}
 use Rattle.link_order.proofs.Searched.{SplitsAt, all_always, count_is, count_mapped, partitioned, range_by, start_is}
 
 module _ {X Y : Type 0} (f : X → Y) where
-  all_unmapped : (P : Y → Type 0) (xs : List X) → AllByRecursion P (map f xs) → AllByRecursion (λ x. P (f x)) xs
+  all_unmapped : (P : Y → Type 0) (xs : List X) → AllByRecursion P (map f xs)
+      → AllByRecursion (λ x. P (f x)) xs
   all_unmapped P [] h = tt
   all_unmapped P (x ∷ xs) h = (h.0, all_unmapped P xs h.1)
 
@@ -53,28 +54,29 @@ module _ {X : Type 0} (use_of : X → Use) where
       let at : X → At = λ x. at_of (use_of x) in
       let us = uses_by j in
       let up : Ascends use_before (map use_of xs) =
-          subst (λ (vs : List Use). Ascends use_before vs) same
-          (uses_in_order j.names.dropped j.objects read) in
+      subst (λ (vs : List Use). Ascends use_before vs) same
+      (uses_in_order j.names.dropped j.objects read) in
       let in_order = ascends_unmapped use_of use_before xs up in
       let some_behind : count ≤ length (drop start xs) =
-          subst (λ (ys : List X). count ≤ length ys) is some in
+      subst (λ (ys : List X). count ≤ length ys) is some in
       let behind : SplitsAt (λ x. is_of object section (at x)) (drop start xs) count =
-          subst (λ (ys : List X). SplitsAt (λ x. is_of object section (at x)) ys count) is second in
+      subst (λ (ys : List X). SplitsAt (λ x. is_of object section (at x)) ys count) is second in
       let before_is : count_before object section us ≡ start =
-          ap (count_before object section) same
-          ∙ (count_mapped use_of (λ u. is_before object section (at_of u)) xs
-          ∙ start_is object section at xs start count in_order within some_behind first behind) in
+      ap (count_before object section) same
+      ∙ (count_mapped use_of (λ u. is_before object section (at_of u)) xs
+      ∙ start_is object section at xs start count in_order within some_behind first behind) in
       let of_is : count_of object section us ≡ count =
-          ap (count_of object section) same
-          ∙ (count_mapped use_of (λ u. is_of object section (at_of u)) xs
-          ∙ count_is object section at xs start count in_order within some_behind first behind) in
+      ap (count_of object section) same
+      ∙ (count_mapped use_of (λ u. is_of object section (at_of u)) xs
+      ∙ count_is object section at xs start count in_order within some_behind first behind) in
       sections_runs j object section read
       ∙ range_by us (count_before object section us) (count_of object section us) start count before_is of_is
       ∙ (ap (λ vs. slice_range vs start (start + count)) same
       ∙ range_mapped use_of start (start + count) xs)
 
   found_mapped :
-      (p : Use → Bool) (xs : List X) → find p (map use_of xs) ≡ option_map use_of (find (λ x. p (use_of x)) xs)
+      (p : Use → Bool) (xs : List X) → find p (map use_of xs)
+      ≡ option_map use_of (find (λ x. p (use_of x)) xs)
   found_mapped p [] = refl
   found_mapped p (x ∷ xs) = by (p (use_of x)) (found_mapped p xs)
     where
@@ -96,14 +98,14 @@ module _ {X : Type 0} (use_of : X → Use) where
   item_found xs wanted n within split j read same =
       let at : X → At = λ x. at_of (use_of x) in
       let up : Ascends use_before (map use_of xs) =
-          subst (λ (vs : List Use). Ascends use_before vs) same
-          (uses_in_order j.names.dropped j.objects read) in
+      subst (λ (vs : List Use). Ascends use_before vs) same
+      (uses_in_order j.names.dropped j.objects read) in
       let in_order = ascends_unmapped use_of use_before xs up in
       let parts =
-          split
-          (partitioned (λ x y. at_before (at x) (at y)) (λ x. at_before (at x) wanted) (λ x. Unit {0})
-          (λ x y. at_falls wanted (at x) (at y)) xs in_order
-          (all_always (λ x. Unit {0}) (λ x. tt) xs)) in
+      split
+      (partitioned (λ x y. at_before (at x) (at y)) (λ x. at_before (at x) wanted) (λ x. Unit {0})
+      (λ x y. at_falls wanted (at x) (at y)) xs in_order
+      (all_always (λ x. Unit {0}) (λ x. tt) xs)) in
       ap (find (λ u. same_place (at_of u) wanted)) same
       ∙ (found_mapped (λ u. same_place (at_of u) wanted) xs
       ∙ ap (option_map use_of) (found_at at wanted xs n in_order within parts))

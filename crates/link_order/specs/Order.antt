@@ -18,7 +18,8 @@ reference_before a b = nat_lt a.section b.section || (a.section == b.section && 
 abbrev pub at_before : At → At → Bool
 at_before a b =
     nat_lt a.object b.object
-    || (a.object == b.object && (nat_lt a.section b.section || (a.section == b.section && nat_lt a.index b.index)))
+    || (a.object == b.object && (nat_lt a.section b.section ||
+    (a.section == b.section && nat_lt a.index b.index)))
 
 abbrev pub use_before : Use → Use → Bool
 use_before a b = at_before (at_of a) (at_of b)

@@ -18,7 +18,8 @@ fn at_before(a: &At, b: &At) -> bool
 
 // The position, if the place is the one there.
 fn position_if_at(places: &[At], position: usize, at: &At) -> Option<usize>
-    ensures { result ≡ option_map (λ p. position) (if_at (λ p. same_place p at.now) (slice_get places.now position)) }
+    ensures { result
+        ≡ option_map (λ p. position) (if_at (λ p. same_place p at.now) (slice_get places.now position)) }
 {
     if places.get(position)? == at {
         Some(position)

@@ -7,6 +7,8 @@ use Rattle.link_order.proofs.position.position_of.Goals as goal
 pub returns : goal.returns
 returns c =
     let wanted = c.args.at.now in
-    position_found c.args.places.now wanted c.partition_point-position.result _ c.partition_point-position.ensures.bound
-    (c.partition_point-position.ensures.partitioned (λ p. at_before p wanted) (always_returns_same _ _ _ (λ a r f h. search rules)))
+    position_found c.args.places.now wanted c.partition_point-position.result _
+    c.partition_point-position.ensures.bound
+    (c.partition_point-position.ensures.partitioned (λ p. at_before p wanted)
+    (always_returns_same _ _ _ (λ a r f h. search rules)))
     c.position_if_at.ensures

@@ -8,6 +8,10 @@ pub returns-clause-run : goal.returns-clause-run
 returns-clause-run c =
     let object = c.args.object in
     let section = c.args.section in
-    run_found c.args.places.now _ object section c.partition_point-start.result c.partition_point-count.result c.partition_point-start.ensures.bound c.split_at.ensures.back c.partition_point-count.ensures.bound
-    (c.partition_point-start.ensures.partitioned (is_before object section) (always_returns_same _ _ _ (λ a r f h. search rules)))
-    (c.partition_point-count.ensures.partitioned (is_of object section) (always_returns_same _ _ _ (λ a r f h. search rules)))
+    run_found c.args.places.now _ object section c.partition_point-start.result
+    c.partition_point-count.result c.partition_point-start.ensures.bound c.split_at.ensures.back
+    c.partition_point-count.ensures.bound
+    (c.partition_point-start.ensures.partitioned (is_before object section)
+    (always_returns_same _ _ _ (λ a r f h. search rules)))
+    (c.partition_point-count.ensures.partitioned (is_of object section)
+    (always_returns_same _ _ _ (λ a r f h. search rules)))
