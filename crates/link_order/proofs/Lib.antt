@@ -5,4 +5,4 @@ pub mod InLink
 pub mod Runs
 pub mod Searched
 pub mod Placed
-pub mod Taken
+pub mod Items

@@ -1,18 +1,14 @@
 -- What is at a place, found by a binary search.
-use Rattle.std.specs.Prelude.{option_and_then, option_map}
-use Rattle.std.proofs.Common.{◌≡◌, ℕ, suc, zero, ◌≤◌, Bool, true, false, cond, get_or, List, [], ◌∷◌, length, map, Option, Some, None, refl, sym, subst, ap, ◌∙◌, arith}
+use Rattle.std.proofs.Common.{◌≡◌, ℕ, suc, zero, ◌≤◌, Bool, true, false, cond, List, [], ◌∷◌, length, Some, None, refl, ap, ◌∙◌, arith}
 use Rattle.std.proofs.lemmas.Bool.Decides.{nat_tests}
-use Rattle.std.specs.List.{AllByRecursion, AllWithin, find, slice_get}
+use Rattle.std.specs.List.{AllByRecursion, find, slice_get}
 use Rattle.std.specs.List.Sorted.{IsPartitionPoint}
 use Rattle.link_core.specs.declared.refusal.At.{At}
-use Rattle.link_core.specs.Planned.{uses_by}
-use Rattle.link_core.specs.References.{Use, at_of}
-use Rattle.link_core.specs.Relocations.{same_place, use_at}
-use Rattle.link_order.specs.Order.{Ascends, at_before, use_before}
-use Rattle.link_order.specs.Run.{IsPositionOf, if_at}
-use Rattle.link_order.proofs.Ascending.{all_weaker, ascends_map}
-use Rattle.link_order.proofs.InLink.{uses_in_order}
-use Rattle.link_order.proofs.Searched.{SplitsAt, all_always, behind_first, from_start, partitioned}
+use Rattle.link_core.specs.Relocations.{same_place}
+use Rattle.link_order.specs.Order.{Ascends, at_before}
+use Rattle.link_order.specs.Found.{if_at}
+use Rattle.link_order.proofs.Ascending.{all_weaker}
+use Rattle.link_order.proofs.Searched.{behind_first, from_start}
 
 same_not_before : (a b : At) → at_before a b ≡ true → same_place a b ≡ false
 same_not_before a b h = grind (arith, nat_tests)
@@ -63,66 +59,3 @@ module _ {X : Type 0} (at : X → At) (wanted : At) where
         from_start (λ y. before_by y ≡ true) x xs n h.0,
         behind_first (λ y. before_by y ≡ false) x xs n (length xs) h.1,
       )
-
--- ---- by the places of all
-
-get_mapped : {X Y : Type 0} (f : X → Y) (xs : List X) (k : ℕ) (d : X)
-    → get_or (map f xs) k (f d) ≡ f (get_or xs k d)
-get_mapped f [] k d = refl
-get_mapped f (x ∷ xs) zero d = refl
-get_mapped f (x ∷ xs) (suc k) d = get_mapped f xs k d
-
-within_mapped : {X Y : Type 0} (f : X → Y) (P : Y → Type 0) (xs : List X) (low high : ℕ)
-    → AllWithin P (map f xs) low high → AllWithin (λ x. P (f x)) xs low high
-within_mapped f P xs low high h = λ k d le lt. subst P (get_mapped f xs k d) (h k (f d) le lt)
-
-slice_get_mapped : {X Y : Type 0} (f : X → Y) (xs : List X) (n : ℕ)
-    → slice_get (map f xs) n ≡ option_map f (slice_get xs n)
-slice_get_mapped f [] n = refl
-slice_get_mapped f (x ∷ xs) zero = refl
-slice_get_mapped f (x ∷ xs) (suc n) = slice_get_mapped f xs n
-
-length_mapped : {X Y : Type 0} (f : X → Y) (xs : List X) → length (map f xs) ≡ length xs
-length_mapped f [] = refl
-length_mapped f (x ∷ xs) = ap suc (length_mapped f xs)
-
-by_test : (us : List Use) (n : ℕ) (u : Use) (b : Bool) → slice_get us n ≡ Some u
-    → cond b (Some u) None ≡ option_and_then (slice_get us)
-    (option_map (λ p. n) (cond b (Some (at_of u)) None))
-by_test us n u true e = sym e
-by_test us n u false e = refl
-
-by_item : (us : List Use) (n : ℕ) (wanted : At) (o : Option Use) → slice_get us n ≡ o
-    → if_at (λ u. same_place (at_of u) wanted) o
-    ≡ option_and_then (slice_get us)
-    (option_map (λ p. n) (if_at (λ p. same_place p wanted) (option_map at_of o)))
-by_item us n wanted None e = refl
-by_item us n wanted (Some u) e = by_test us n u (same_place (at_of u) wanted) e
-
-pub position_found : (places : List At) (wanted : At) (n : ℕ) (found : Option ℕ) → n ≤ length places
-    → SplitsAt (λ p. at_before p wanted) places n
-    → found ≡ option_map (λ p. n) (if_at (λ p. same_place p wanted) (slice_get places n))
-    → IsPositionOf places wanted found
-unfolding use_at
-position_found places wanted n found within split is j read same =
-    let us = uses_by j in
-    let up : Ascends use_before us = uses_in_order j.names.dropped j.objects read in
-    let in_order : Ascends at_before (map at_of us) =
-    ascends_map at_of use_before at_before (λ x y e. e) us up in
-    let split_there : SplitsAt (λ p. at_before p wanted) (map at_of us) n =
-    subst (λ (xs : List At). SplitsAt (λ p. at_before p wanted) xs n) (sym same) split in
-    let parts = split_there (partitioned at_before (λ p. at_before p wanted) (λ p. Unit {0})
-    (at_falls wanted) (map at_of us) in_order (all_always (λ p. Unit {0}) (λ p. tt) (map at_of us))) in
-    let front = within_mapped at_of (λ p. at_before p wanted ≡ true) us 0 n parts.0 in
-    let back = within_mapped at_of (λ p. at_before p wanted ≡ false) us n (length (map at_of us)) parts.1 in
-    let back_all : AllWithin (λ u. at_before (at_of u) wanted ≡ false) us n (length us) =
-    subst (λ (k : ℕ). AllWithin (λ u. at_before (at_of u) wanted ≡ false) us n k)
-    (length_mapped at_of us) back in
-    let lies : n ≤ length us = omega (arith, within, sym (length_mapped at_of us) ∙ ap length same) in
-    let all = found_at at_of wanted us n up lies (front, back_all) in
-    let there : slice_get places n ≡ option_map at_of (slice_get us n) =
-    ap (λ xs. slice_get xs n) (sym same) ∙ slice_get_mapped at_of us n in
-    let meant : found ≡ option_map (λ p. n)
-    (if_at (λ p. same_place p wanted) (option_map at_of (slice_get us n))) =
-    is ∙ ap (λ o. option_map (λ p. n) (if_at (λ p. same_place p wanted) o)) there in
-    all ∙ by_item us n wanted (slice_get us n) refl ∙ sym (ap (option_and_then (slice_get us)) meant)

@@ -1,18 +1,12 @@
 -- Binary searches in lists that ascend.
-use Rattle.std.proofs.Common.{◌≡◌, ℕ, suc, zero, ◌+◌, ◌-◌, ◌<◌, ◌≤◌, Bool, true, false, cond, List, [], ◌∷◌, length, map, filter, drop, take, get_or, refl, sym, subst, ap, ◌∙◌, arith}
+use Rattle.std.proofs.Common.{◌≡◌, ℕ, suc, zero, ◌+◌, ◌-◌, ◌<◌, ◌≤◌, Bool, true, false, cond, List, [], ◌∷◌, length, map, filter, drop, take, get_or, refl, ap, ◌∙◌, arith}
 use Rattle.std.proofs.lemmas.Bool.Decides.{nat_tests}
 use Rattle.std.specs.List.{AllByRecursion, AllWithin}
 use Rattle.std.specs.List.Sorted.{IsPartitionedBy, IsPartitionPoint}
 use Rattle.std.specs.Prelude.{slice_range}
 use Rattle.link_core.specs.declared.refusal.At.{At}
-use Rattle.link_core.specs.Planned.{uses_by}
-use Rattle.link_core.specs.References.{at_of}
-use Rattle.link_order.specs.Laws.{count_before, count_of}
-use Rattle.link_order.specs.Order.{Ascends, at_before, is_before, is_of, use_before}
-use Rattle.link_order.specs.Run.{IsRunOf}
-use Rattle.link_order.proofs.Ascending.{ascends_map}
-use Rattle.link_order.proofs.InLink.{uses_in_order}
-use Rattle.link_order.proofs.Runs.{either, sections_runs}
+use Rattle.link_order.specs.Order.{Ascends, at_before, is_before, is_of}
+use Rattle.link_order.proofs.Runs.{either}
 
 module _ {X : Type 0} where
   all_at : (P : X → Type 0) (xs : List X) (i : ℕ) (d : X) → i < length xs → AllByRecursion P xs
@@ -154,28 +148,3 @@ pub range_by : {X : Type 0} (us : List X) (before of start count : ℕ) → befo
 range_by us before of start count e f =
     let same : of ≡ start + count - start = omega (arith, f) in
     ap (λ n. take n (drop before us)) same ∙ ap (λ n. take (start + count - start) (drop n us)) e
-
-pub run_found : (places rest : List At) (object section start count : ℕ) → start ≤ length places
-    → rest ≡ drop start places → count ≤ length rest → SplitsAt (is_before object section) places start
-    → SplitsAt (is_of object section) rest count → IsRunOf places object section start (start + count)
-run_found places rest object section start count within is some first second j read same =
-    let us = uses_by j in
-    let up : Ascends at_before (map at_of us) =
-    ascends_map at_of use_before at_before (λ x y e. e) us
-    (uses_in_order j.names.dropped j.objects read) in
-    let in_order : Ascends at_before places = subst (λ (xs : List At). Ascends at_before xs) same up in
-    let some_behind : count ≤ length (drop start places) =
-    subst (λ (xs : List At). count ≤ length xs) is some in
-    let behind : SplitsAt (is_of object section) (drop start places) count =
-    subst (λ (xs : List At). SplitsAt (is_of object section) xs count) is second in
-    let before_is : count_before object section us ≡ start =
-    sym (count_mapped at_of (is_before object section) us)
-    ∙ (ap (λ xs. length (filter (is_before object section) xs)) same
-    ∙ start_is object section (λ a. a) places start count in_order within some_behind first behind) in
-    let of_is : count_of object section us ≡ count =
-    sym (count_mapped at_of (is_of object section) us)
-    ∙ (ap (λ xs. length (filter (is_of object section) xs)) same
-    ∙ count_is object section (λ a. a) places start count in_order within some_behind first behind) in
-    sections_runs j object section read
-    ∙ range_by us (count_before object section us)
-    (count_of object section us) start count before_is of_is

@@ -1,3 +1,3 @@
 pub mod Order
 pub mod Laws
-pub mod Run
+pub mod Found

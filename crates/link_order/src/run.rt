@@ -2,8 +2,9 @@
 
 ghost use Rattle.std.specs.Prelude.{◌≡◌, ◌≤◌, length};
 ghost use Rattle.link_order.specs.Order as meant;
-ghost use Rattle.link_order.specs.Run.{IsRunOf};
+ghost use Rattle.link_order.specs.Found.{IsRunOf};
 
+use crate::referring::Referring;
 use link_core::At;
 
 // Whether a place stands before those of a section.
@@ -20,16 +21,15 @@ fn is_of(object: u32, section: u32, at: &At) -> bool
     at.object == object && at.section == section
 }
 
-/// Where the references of a section start among all, and where they end, by the places of all references of
-/// a link, in order. Two binary searches; where the section has no references, both are the place that they
-/// would have.
-pub fn run_of(places: &[At], object: u32, section: u32) -> (usize, usize)
+/// Where the references of a section start among all references of a link, and where they end. Two binary
+/// searches; where the section has no references, both are the place that they would have.
+pub fn run_of<T: Referring>(items: &[T], object: u32, section: u32) -> (usize, usize)
     ensures ordered { result.0 ≤ result.1 }
-    ensures within { result.1 ≤ length places.now }
-    ensures run { IsRunOf places.now object section result.0 result.1 }
+    ensures within { result.1 ≤ length items.now }
+    ensures run { IsRunOf T.use_of items.now object section result.0 result.1 }
 {
-    let start = places.partition_point(|at| is_before(object, section, at));
-    let (_, rest) = places.split_at(start);
-    let count = rest.partition_point(|at| is_of(object, section, at));
+    let start = items.partition_point(|item| is_before(object, section, &item.at()));
+    let (_, rest) = items.split_at(start);
+    let count = rest.partition_point(|item| is_of(object, section, &item.at()));
     (start, start + count)
 }

@@ -1,16 +1,14 @@
--- The same for items that each have a reference, as a slice of references with what else is known of each.
-use Rattle.std.proofs.Common.{◌≡◌, ℕ, suc, zero, ◌+◌, ◌-◌, ◌≤◌, Bool, true, List, [], ◌∷◌, length, map, drop, take, Some, cond, false, refl, subst, ap, ◌∙◌}
+-- What is found among items that each have a reference.
+use Rattle.std.proofs.Common.{◌≡◌, ℕ, suc, zero, ◌+◌, ◌-◌, ◌≤◌, Bool, true, List, [], ◌∷◌, length, map, drop, take, Option, Some, cond, false, refl, sym, subst, ap, ◌∙◌}
 use Rattle.std.specs.List.{AllByRecursion, find, slice_get}
-use Rattle.std.specs.Prelude.{All, option_map, slice_range}
-use Rattle.elf_object.specs.Object.{IsRead}
+use Rattle.std.specs.Prelude.{option_map, slice_range}
 use Rattle.link_core.specs.declared.refusal.At.{At}
-use Rattle.link_core.specs.Patch.{uses_at}
-use Rattle.link_core.specs.Planned.{Planned, uses_by}
+use Rattle.link_core.specs.Planned.{uses_by}
 use Rattle.link_core.specs.References.{Use, at_of}
 use Rattle.link_order.specs.Laws.{count_before, count_of}
 use Rattle.link_order.specs.Order.{Ascends, at_before, is_before, is_of, use_before}
 use Rattle.link_core.specs.Relocations.{same_place, use_at}
-use Rattle.link_order.specs.Run.{if_at}
+use Rattle.link_order.specs.Found.{IsRunOf, IsFoundAt, if_at}
 use Rattle.link_order.proofs.Placed.{at_falls, found_at}
 use Rattle.link_order.proofs.InLink.{uses_in_order}
 use Rattle.link_order.proofs.Runs.{sections_runs}
@@ -48,8 +46,7 @@ module _ {X : Type 0} (use_of : X → Use) where
       (xs rest : List X) (object section start count : ℕ) → start ≤ length xs → rest ≡ drop start xs
       → count ≤ length rest → SplitsAt (λ x. is_before object section (at_of (use_of x))) xs start
       → SplitsAt (λ x. is_of object section (at_of (use_of x))) rest count
-      → (j : Planned) → All IsRead j.objects → uses_by j ≡ map use_of xs
-      → uses_at j object section ≡ map use_of (slice_range xs start (start + count))
+      → IsRunOf use_of xs object section start (start + count)
   items_found xs rest object section start count within is some first second j read same =
       let at : X → At = λ x. at_of (use_of x) in
       let us = uses_by j in
@@ -89,13 +86,12 @@ module _ {X : Type 0} (use_of : X → Use) where
 
   -- a search finds the item of a place
   pub item_found :
-      (xs : List X) (wanted : At) (n : ℕ) → n ≤ length xs
+      (xs : List X) (wanted : At) (n : ℕ) (found : Option X) → n ≤ length xs
       → SplitsAt (λ x. at_before (at_of (use_of x)) wanted) xs n
-      → (j : Planned) → All IsRead j.objects → uses_by j ≡ map use_of xs
-      → use_at j wanted
-      ≡ option_map use_of (if_at (λ x. same_place (at_of (use_of x)) wanted) (slice_get xs n))
+      → found ≡ if_at (λ x. same_place (at_of (use_of x)) wanted) (slice_get xs n)
+      → IsFoundAt use_of xs wanted found
   unfolding use_at
-  item_found xs wanted n within split j read same =
+  item_found xs wanted n found within split is j read same =
       let at : X → At = λ x. at_of (use_of x) in
       let up : Ascends use_before (map use_of xs) =
       subst (λ (vs : List Use). Ascends use_before vs) same
@@ -108,4 +104,4 @@ module _ {X : Type 0} (use_of : X → Use) where
       (all_always (λ x. Unit {0}) (λ x. tt) xs)) in
       ap (find (λ u. same_place (at_of u) wanted)) same
       ∙ (found_mapped (λ u. same_place (at_of u) wanted) xs
-      ∙ ap (option_map use_of) (found_at at wanted xs n in_order within parts))
+      ∙ ap (option_map use_of) (found_at at wanted xs n in_order within parts ∙ sym is))
