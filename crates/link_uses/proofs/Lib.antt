@@ -1,0 +1,4 @@
+pub mod Pairs
+pub mod Tables
+pub mod Passes
+pub mod Whole
