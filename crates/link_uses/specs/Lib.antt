@@ -1,3 +1,4 @@
 pub mod Comes
 pub mod Uses
 pub mod Passes
+pub mod Laws

@@ -9,8 +9,10 @@
 
 mod given;
 mod kept;
+mod laws;
 mod pass;
 mod table;
 mod taken;
 
+pub use laws::uses_are_kept_beside_needs;
 pub use taken::{Taken, taken_uses};
