@@ -49,9 +49,9 @@ fn objects_in(alloc: Global, files: &[Input]) -> Result<List<Object>, LinkStop>
     Ok(List::from_vec(objects))
 }
 
-/// The objects in files, in order. Refused with BadObject: the position of the first file that is no object, and the
-/// first cause why it is none (`Object::parse`). Memory runs out before the bytes of a file are copied, or while they are
-/// read; each file is copied once, and the copy is let go where it is refused.
+/// The objects in files, in order: one for each file, and its bytes are those of the file, which are copied.
+/// Refused with BadObject: the position of the first file that is no object, and the first cause why not
+/// (`Object::parse`). It takes the room of all files, beside what `Object::parse` takes.
 pub fn read_objects(alloc: Global, files: &[Input]) -> Result<List<Object>, LinkStop>
     requires few { length files.now ≤ 4096 }
     requires small { All (λ file. length file.bytes < 2 ^ 32) files.now }

@@ -1,4 +1,4 @@
-use Rattle.link_objects.proofs.Reading.{read_count, read_own, read_small}
+use Rattle.link_objects.proofs.Owned.{read_count, read_own, read_small}
 use Rattle.link_objects.proofs.objects.read_objects.Goals as goal
 
 pub returns-clause-bytes : goal.returns-clause-bytes
