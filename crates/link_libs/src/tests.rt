@@ -1,0 +1,1 @@
+//! Bytes are read as libraries and as texts.
