@@ -8,9 +8,11 @@
 #![tactic(auto)]
 
 mod any;
+mod sides;
 mod source;
 
 pub use any::AnyLib;
+pub use sides::check_sides;
 pub use source::read_lib;
 
 #[cfg(test)]

@@ -82,11 +82,11 @@ small_are : (files : List Input) (os : List ObjectRecord) → Own (bytes_of file
     → All (λ file. IsSmall file.bytes) files → All (λ o. IsSmall o.bytes) os
 small_are files os own h =
     let below : All IsSmall (own_bytes os) =
-        subst (λ (all : List (List ℕ)). All IsSmall all) (sym own)
-        (All-map IsSmall (λ file. file.bytes) files h) in
+    subst (λ (all : List (List ℕ)). All IsSmall all) (sym own)
+    (All-map IsSmall (λ file. file.bytes) files h) in
     λ k d within.
     let there : k < length (own_bytes os) =
-        subst (λ (n : ℕ). k < n) (sym (length-map os (λ o. o.bytes))) within in
+    subst (λ (n : ℕ). k < n) (sym (length-map os (λ o. o.bytes))) within in
     subst IsSmall (get_or-map (λ (o : ObjectRecord). o.bytes) os k d) (below k d.bytes there)
 
 module _ (r : Result (List ObjectRecord) LinkStop) (files : List Input)

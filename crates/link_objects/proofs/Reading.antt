@@ -72,7 +72,7 @@ module _ (files : List Input) (i : ℕ) (file : Input) (os : List ObjectRecord) 
       → Stops stop (objects_of (bytes_of files))
   read_ends stop within is e so_far =
       let whole : behind os (and_then here later) ≡ objects_of (bytes_of files) =
-          sym (more within is) ∙ so_far ∙ from_first files in
+      sym (more within is) ∙ so_far ∙ from_first files in
       subst (λ (r : Read). Stops stop r) whole (stops_here os here later stop e)
 
 -- all files were read
@@ -81,10 +81,10 @@ pub read_done : (made os : List ObjectRecord) (files : List Input) (i : ℕ) →
     → UnlessMemory stops.Memory (Ok made) (stopped (objects_of (bytes_of files)))
 read_done made os files i is end so_far =
     let none : behind_from os files i ≡ Ok os =
-        ap (λ fs. behind os (objects_from i fs)) (drop_all i files end)
-        ∙ ap (λ (all : List ObjectRecord). Ok all) (append-nil os) in
+    ap (λ fs. behind os (objects_from i fs)) (drop_all i files end)
+    ∙ ap (λ (all : List ObjectRecord). Ok all) (append-nil os) in
     let done : objects_of (bytes_of files) ≡ Ok made =
-        sym (from_first files) ∙ sym so_far ∙ none ∙ ap (λ (all : List ObjectRecord). Ok all) (sym is) in
+    sym (from_first files) ∙ sym so_far ∙ none ∙ ap (λ (all : List ObjectRecord). Ok all) (sym is) in
     inr (sym (ap (λ (r : Read). stopped r) done))
 
 -- a stop is handed on as it is
