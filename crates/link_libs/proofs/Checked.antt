@@ -31,7 +31,8 @@ first_next : (one : Option LinkRefusal) (rest : List LinkRefusal)
 first_next None rest = refl
 first_next (Some refusal) rest = refl
 
-bad_ends : (one rest : Checked) (stop : LinkStop) → Answers (Err stop) one → Answers (Err stop) (one >>= (λ _. rest))
+bad_ends : (one rest : Checked) (stop : LinkStop) → Answers (Err stop) one
+    → Answers (Err stop) (one >>= (λ _. rest))
 bad_ends one rest stop (inl e) = inl e
 bad_ends (Ok tt) rest stop (inr e) = absurd (cc)
 bad_ends (Err refusal) rest stop (inr e) = inr e
@@ -58,12 +59,17 @@ module _ {S : Type 0} (facts : S → Facts) where
     abbrev later : Checked
     later = checked_from (i + 1) (drop (i + 1) libs)
 
+    -- the refusals of the libraries behind it
+    abbrev refusals : List LinkRefusal
+    refusals = filter_map unread_side (enumerate_from (i + 1) (map (side_of facts) (drop (i + 1) libs)))
+
     more : i < length libs → lib ≡ get_or libs i lib → checked_from i (drop i libs) ≡ here >>= (λ _. later)
     more within is =
         at_drop_more (checked_from i) libs i lib within
         ∙ ap (λ (l : Lib S). checked_from i (l ∷ drop (i + 1) libs)) (sym is)
-        ∙ first_next (unread_side (i, side_of facts lib)) (filter_map unread_side (enumerate_from (i + 1) (map (side_of facts) (drop (i + 1) libs))))
-        ∙ ap (λ (one : Option LinkRefusal). unrefused one >>= (λ _. later)) (unread_is i lib.file_name lib.source)
+        ∙ first_next (unread_side (i, side_of facts lib)) refusals
+        ∙ ap (λ (one : Option LinkRefusal). unrefused one >>= (λ _. later))
+        (unread_is i lib.file_name lib.source)
 
     pub check_ends : (stop : LinkStop) → i < length libs → lib ≡ get_or libs i lib → Answers (Err stop) here
         → checked_from i (drop i libs) ≡ checked_from 0 libs

@@ -9,8 +9,8 @@ use link_core::{Lib, LibCause, LibSource, LinkRefusal, LinkStop};
 use std::alloc::Global;
 use std::test::Fail;
 
-// A shared library, of 32 bits with the lowest byte first, that defines `foo` and has no soname. An entry of its
-// dynamic table, DT_DEBUG, stands at ENTRY.
+// A shared library, of 32 bits with the lowest byte first, that defines `foo` and has no soname. An entry of
+// its dynamic table, DT_DEBUG, stands at ENTRY.
 static LIBRARY: [u8; 268] = [
     0x7f, 0x45, 0x4c, 0x46, 0x01, 0x01, 0x01, 0x00, 0x00, 0x00, 0x00, 0x00, 0x00, 0x00, 0x00, 0x00,
     0x03, 0x00, 0x03, 0x00, 0x01, 0x00, 0x00, 0x00, 0x00, 0x00, 0x00, 0x00, 0x00, 0x00, 0x00, 0x00,
@@ -83,10 +83,22 @@ fn both_forms_are_read(rt: HostRuntime) -> Result<(), Fail> {
 #[test]
 fn other_bytes_have_their_causes(rt: HostRuntime) -> Result<(), Fail> {
     let alloc = rt.alloc();
-    assert_eq!(rt; cause_of(alloc, b"!<arch>\n")?, Some(LibCause::Elf(ElfCause::Archive)));
-    assert_eq!(rt; cause_of(alloc, b"!<thin>\n/")?, Some(LibCause::Elf(ElfCause::Archive)));
-    assert_eq!(rt; cause_of(alloc, b"\x7fELF")?, Some(LibCause::Elf(ElfCause::Truncated(0))));
-    assert_eq!(rt; cause_of(alloc, b"")?, Some(LibCause::Text(TextCause::NotIfs)));
+    assert_eq!(rt;
+        cause_of(alloc, b"!<arch>\n")?,
+        Some(LibCause::Elf(ElfCause::Archive))
+    );
+    assert_eq!(rt;
+        cause_of(alloc, b"!<thin>\n/")?,
+        Some(LibCause::Elf(ElfCause::Archive))
+    );
+    assert_eq!(rt;
+        cause_of(alloc, b"\x7fELF")?,
+        Some(LibCause::Elf(ElfCause::Truncated(0)))
+    );
+    assert_eq!(rt;
+        cause_of(alloc, b"")?,
+        Some(LibCause::Text(TextCause::NotIfs))
+    );
     Ok(())
 }
 
@@ -129,6 +141,9 @@ fn the_first_that_was_not_read_is_named(rt: HostRuntime) -> Result<(), Fail> {
     assert_eq!(rt; check(alloc, &[&LIBRARY, &versioned, TEXT]), Ok(()));
     let cause = LibCause::Text(TextCause::NotIfs);
     let refusal = LinkRefusal::BadLibrary(2, cause);
-    assert_eq!(rt; check(alloc, &[TEXT, &versioned, b"", b"!<arch>\n"]), Err(LinkStop::Refused(refusal)));
+    assert_eq!(rt;
+        check(alloc, &[TEXT, &versioned, b"", b"!<arch>\n"]),
+        Err(LinkStop::Refused(refusal))
+    );
     Ok(())
 }

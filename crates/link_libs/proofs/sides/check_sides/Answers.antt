@@ -12,8 +12,8 @@ returns-in_err-check_side g c =
     let facts = g.S.SharedLib.facts in
     handed r.result stop (sides_checked (map (side_of facts) c.args.libs.now))
     (err_from_is_err_and r.result r.ensures.1)
-    (check_ends facts c.args.libs.now c.loop-i.i c.index-libs-i.result stop c.loop-i-test.true c.index-libs-i.is
-    c.in_err-check_side.ensures c.loop-i.invariant)
+    (check_ends facts c.args.libs.now c.loop-i.i c.index-libs-i.result stop c.loop-i-test.true
+    c.index-libs-i.is c.in_err-check_side.ensures c.loop-i.invariant)
 
 pub returns : goal.returns
 returns g c = check_done g.S.SharedLib.facts c.args.libs.now c.loop-i.i c.loop-i-test.false c.loop-i.invariant
