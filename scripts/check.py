@@ -11,6 +11,8 @@ import subprocess
 import sys
 from pathlib import Path
 
+from completions import commands
+
 TOP = Path(__file__).resolve().parent.parent
 OWN = Path(__file__).resolve()
 TEXTS = {".md", ".rt", ".antt", ".edit", ".py", ".sh", ".1", ".txt", ""}
@@ -114,9 +116,10 @@ def named_words():
 
 
 def told_options():
-    """Each option of the code stands in the page of words and in the manual."""
+    """Each option of the code stands in the page of words, and in the manual where a command of the program takes it."""
+    taken = {option for _, options in commands() for option, _ in options}
     for option in re.findall(r'codes "(--[\w-]+)"', text_of("crates/ifs_words/specs/Settings.antt")):
-        for paper in ("docs/format/words.md", "docs/ifs.1"):
+        for paper in ("docs/format/words.md", "docs/ifs.1") if option in taken else ("docs/format/words.md",):
             if option not in text_of(paper).replace("\\-", "-"):
                 yield f"{paper} says nothing of {option}"
 

@@ -3,13 +3,15 @@
 
     scripts/completions.py bash|zsh
 
-The options of a command are those that crates/ifs_words/specs/Settings.antt lists for it.
+The options of a command are those that crates/ifs_words/specs/Settings.antt lists for it. The commands are those that
+crates/ifs_words/specs/Words.antt tells apart: a table may be there before its command is.
 """
 import re
 import sys
 from pathlib import Path
 
 TABLE = Path(__file__).resolve().parent.parent / "crates/ifs_words/specs/Settings.antt"
+WORDS = TABLE.with_name("Words.antt")
 
 
 def commands():
@@ -17,8 +19,10 @@ def commands():
     text = TABLE.read_text(encoding="utf-8")
     rows = {name: (word, kind != "flag")
             for name, kind, word in re.findall(r'^row_of (\w+) = (\w+) \(codes "(--[\w-]+)"\)', text, re.M)}
-    for command, settings in re.findall(r"^(\w+)_settings =\n((?:    .*\n)+)", text, re.M):
-        yield command, [rows[name] for name in re.findall(r"\w+", settings) if name in rows]
+    known = re.findall(r'bytes_eq command \(codes "(\w+)"\)', WORDS.read_text(encoding="utf-8"))
+    for command, settings in re.findall(r"^(\w+)_settings =((?: .*)?\n(?:    .*\n)*)", text, re.M):
+        if command in known:
+            yield command, [rows[name] for name in re.findall(r"\w+", settings) if name in rows]
 
 
 def words_of(options):

@@ -1,9 +1,10 @@
 -- A command that was read has an input, and its adjustment is one that interfaces may have: each value was looked at when it
 -- was read, and a triple stands alone.
-use Rattle.std.proofs.Common.{refl, subst, ◌≡◌, ◌<◌, ℕ, length, arith, Bool, true, false, not, ◌&&◌, ◌||◌, List, [], ◌∷◌, Option, Some, None, Result, Ok, Err, IfOk, inl, inr}
-use Rattle.std.specs.Prelude.{codes, nat_eq, is_some, if◌then◌else◌}
+use Rattle.std.proofs.Common.{refl, subst, ◌≡◌, ◌<◌, ◌≤◌, ℕ, length, arith, Bool, true, false, not, ◌&&◌, ◌||◌, List, [], ◌∷◌, Option, Some, None, Result, Ok, Err, IfOk, inl, inr}
+use Rattle.std.specs.Prelude.{codes, nat_eq, nat_le, is_some, if◌then◌else◌}
 use Rattle.std.specs.List.{list_all, starts_with}
 use Rattle.std.specs.Str.{bytes_eq}
+use Rattle.std.proofs.lemmas.Bool.{leb-true}
 use Rattle.std.proofs.lemmas.List.Folds.{list_all-append}
 use Rattle.ifs_bytes.specs.Outcome.{◌>>=◌, check, UnlessMemory}
 use Rattle.ifs_interface.specs.Interface.{is_proper_name, is_proper_soname, is_proper_target}
@@ -13,6 +14,7 @@ use Rattle.ifs_words.specs.declared.cause.WordCause.TheVariants as causes
 use Rattle.ifs_words.specs.declared.command.Command.{Command}
 use Rattle.ifs_words.specs.declared.command.StubWords.{StubWords}
 use Rattle.ifs_words.specs.declared.given.Given.{Given}
+use Rattle.ifs_words.specs.declared.link.LinkWords.{LinkWords}
 use Rattle.ifs_words.specs.declared.given.Next.{Next}
 use Rattle.ifs_words.specs.declared.given.Next.TheVariants.{Anything, Value, Path}
 use Rattle.ifs_words.specs.declared.read.Read.{Read}
@@ -20,11 +22,13 @@ use Rattle.ifs_words.specs.declared.settings.Form.{Form}
 use Rattle.ifs_words.specs.declared.settings.Form.TheVariants as forms
 use Rattle.ifs_words.specs.declared.settings.Setting.{Setting}
 use Rattle.ifs_words.specs.declared.settings.Setting.TheVariants as settings
-use Rattle.ifs_words.specs.Settings.{row_of, name_of, setting_named, stub_settings}
+use Rattle.ifs_words.specs.Settings.{row_of, name_of, link_settings, setting_named, stub_settings}
 use Rattle.ifs_words.specs.Values.{is_good}
 use Rattle.ifs_words.specs.Reading.{awaiting, ended, given, has, is_of, known, known_in, name_in, nothing, read_from, valued, value_in, value_of, with_any, with_given, with_option, with_path, with_word}
-use Rattle.ifs_words.specs.Stub.{adjustment, given_target, no_conflict, paths_fit, stub_of, stub_words}
-use Rattle.ifs_words.specs.Usable.{CanRun, CanStub, IsUsable}
+use Rattle.ifs_words.specs.Link.{link_of, link_words}
+use Rattle.ifs_words.specs.Stub.{adjustment, given_target, no_conflict, stub_of, stub_words}
+use Rattle.ifs_words.specs.Together.{at_most, needed, paths_fit, values_of}
+use Rattle.ifs_words.specs.Usable.{CanLink, CanRun, CanStub, IsUsable}
 use Rattle.ifs_words.specs.Words.{as_stub, words_of}
 
 -- ---- what holds of a value that a reading gives
@@ -175,17 +179,29 @@ usable gs all alone = record {
   target = proper_target gs _ all alone refl;
 }
 
-some_path : (paths : List (List ℕ)) → IfOk (paths_fit paths) (λ _. 0 < length paths)
+few : (most : ℕ) (xs : List (List ℕ)) (b : Bool) → nat_le (length xs) most ≡ b → IfOk (check b (causes.TooManyInputs (length xs))) (λ _. length xs ≤ most)
+few most xs true e = leb-true (length xs) most e
+few most xs false e = tt
+
+record Fits (most : ℕ) (paths : List (List ℕ)) : Type 0 where
+  some : 0 < length paths
+  few : length paths ≤ most
+
+fits : (most : ℕ) (paths : List (List ℕ)) (b : Bool) → nat_le (length paths) most ≡ b → 0 < length paths → IfOk (check b (causes.TooManyInputs (length paths))) (λ _. Fits most paths)
+fits most paths true e some = record { some = some; few = leb-true (length paths) most e }
+fits most paths false e some = tt
+
+paths_are_fit : (most : ℕ) (paths : List (List ℕ)) → IfOk (paths_fit most paths) (λ _. Fits most paths)
 unfolding paths_fit
-some_path [] = tt
-some_path (p ∷ ps) = checked_last _ _ (λ _. 0 < length (p ∷ ps)) (omega arith)
+paths_are_fit most [] = tt
+paths_are_fit most (p ∷ ps) = fits most (p ∷ ps) _ refl (omega arith)
 
 stub_usable : (words : List (List ℕ)) → IfOk (stub_of words) CanStub
 unfolding stub_of stub_words
 stub_usable words =
     bound (read_from stub_settings words nothing) _ AllGood CanStub (read_from_good stub_settings words nothing refl) (λ r all.
     bound (no_conflict r.given) _ (λ _. Alone r.given) CanStub (no_conflict_alone r.given) (λ _ alone.
-    bound (paths_fit r.paths) _ (λ _. 0 < length r.paths) CanStub (some_path r.paths) (λ _ some. record { inputs = some; adjust = usable r.given all alone })))
+    bound (paths_fit 4096 r.paths) _ (λ _. Fits 4096 r.paths) CanStub (paths_are_fit 4096 r.paths) (λ _ fit. record { inputs = fit.some; adjust = usable r.given all alone })))
 
 as_stub_usable : (r : Result StubWords WordCause) → IfOk r CanStub → IfOk (as_stub r) CanRun
 as_stub_usable (Ok w) p = p
@@ -200,3 +216,22 @@ commands_are_usable (c ∷ words) =
 pub parsed_is_usable : (words : List (List ℕ)) (result : Result Command WordCause) → UnlessMemory causes.Memory result (words_of words) → IfOk result CanRun
 parsed_is_usable words result (inl e) = rw e tt
 parsed_is_usable words result (inr e) = rw e (commands_are_usable words)
+
+-- ---- a link
+
+any : {A : Type 0} (r : Result A WordCause) → IfOk r (λ _. Unit {0})
+any (Ok x) = tt
+any (Err e) = tt
+
+link_usable : (words : List (List ℕ)) → IfOk (link_of words) CanLink
+unfolding link_of link_words
+link_usable words =
+    bound (read_from link_settings words nothing) _ (λ _. Unit {0}) CanLink (any _) (λ r _.
+    bound (paths_fit 4096 r.paths) _ (λ _. Fits 4096 r.paths) CanLink (paths_are_fit 4096 r.paths) (λ _ fit.
+    bound (at_most 256 (values_of settings.Lib r.given)) _ (λ _. length (values_of settings.Lib r.given) ≤ 256) CanLink (few 256 (values_of settings.Lib r.given) _ refl) (λ _ libs.
+    bound (needed settings.Output r.given) _ (λ _. Unit {0}) CanLink (any _) (λ _ _. record { some = fit.some; objects = fit.few; libs = libs }))))
+
+-- what words ask of `link` is a job that a linker takes
+pub link_is_usable : (words : List (List ℕ)) (result : Result LinkWords WordCause) → UnlessMemory causes.Memory result (link_of words) → IfOk result CanLink
+link_is_usable words result (inl e) = rw e tt
+link_is_usable words result (inr e) = rw e (link_usable words)

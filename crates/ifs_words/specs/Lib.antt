@@ -1,7 +1,10 @@
 pub mod Settings
 pub mod Values
 pub mod Reading
+pub mod Together
 pub mod Stub
+pub mod Link
+pub mod Tbd
 pub mod Words
 pub mod Printed
 pub mod Usable

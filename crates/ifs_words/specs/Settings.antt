@@ -3,7 +3,7 @@ use Rattle.std.specs.Prelude.{ℕ, Bool, true, false, List, [], ◌∷◌, codes
 use Rattle.std.specs.List.{find}
 use Rattle.std.specs.Str.{bytes_eq}
 use Rattle.ifs_words.specs.declared.settings.Setting.{Setting}
-use Rattle.ifs_words.specs.declared.settings.Setting.TheVariants.{InputFormat, OutputIfs, OutputElf, Arch, BitWidth, Endianness, Target, Soname, Exclude, StripIfsArch, StripIfsBitWidth, StripIfsEndianness, StripIfsTarget, StripUndefined, StripNeeded, StripSize, WriteIfChanged}
+use Rattle.ifs_words.specs.declared.settings.Setting.TheVariants.{InputFormat, OutputIfs, OutputElf, Arch, BitWidth, Endianness, Target, Soname, Exclude, StripIfsArch, StripIfsBitWidth, StripIfsEndianness, StripIfsTarget, StripUndefined, StripNeeded, StripSize, WriteIfChanged, Output, Kind, Entry, Runpath, DynamicLinker, Lib, ExportDynamic, AllowShlibUndefined, AsNeeded, Now, To}
 use Rattle.ifs_words.specs.declared.settings.Form.{Form}
 use Rattle.ifs_words.specs.declared.settings.Form.TheVariants as forms
 
@@ -40,6 +40,17 @@ row_of StripUndefined = flag (codes "--strip-undefined")
 row_of StripNeeded = flag (codes "--strip-needed")
 row_of StripSize = flag (codes "--strip-size")
 row_of WriteIfChanged = flag (codes "--write-if-changed")
+row_of Output = valued (codes "--output") forms.Text
+row_of Kind = valued (codes "--kind") forms.Kind
+row_of Entry = valued (codes "--entry") forms.Text
+row_of Runpath = valued (codes "--runpath") forms.Text
+row_of DynamicLinker = valued (codes "--dynamic-linker") forms.Text
+row_of Lib = repeated (codes "--lib") forms.Text
+row_of ExportDynamic = flag (codes "--export-dynamic")
+row_of AllowShlibUndefined = flag (codes "--allow-shlib-undefined")
+row_of AsNeeded = flag (codes "--as-needed")
+row_of Now = flag (codes "--now")
+row_of To = valued (codes "--to") forms.Version
 
 abbrev pub name_of : Setting → List ℕ
 name_of setting = (row_of setting).name
@@ -50,6 +61,16 @@ stub_settings =
     InputFormat ∷ OutputIfs ∷ OutputElf ∷ Arch ∷ BitWidth ∷ Endianness ∷ Target ∷ Soname ∷ Exclude
     ∷ StripIfsArch ∷ StripIfsBitWidth ∷ StripIfsEndianness ∷ StripIfsTarget
     ∷ StripUndefined ∷ StripNeeded ∷ StripSize ∷ WriteIfChanged ∷ []
+
+-- the options and flags of `link`
+unfoldable pub link_settings : List Setting
+link_settings =
+    Output ∷ Kind ∷ Entry ∷ Soname ∷ Runpath ∷ DynamicLinker ∷ Lib
+    ∷ ExportDynamic ∷ AllowShlibUndefined ∷ AsNeeded ∷ Now ∷ WriteIfChanged ∷ []
+
+-- the options and flags of `tbd`
+unfoldable pub tbd_settings : List Setting
+tbd_settings = To ∷ Output ∷ WriteIfChanged ∷ []
 
 -- the one of that name in a table
 abbrev pub setting_named : List Setting → List ℕ → Option Setting

@@ -1,5 +1,5 @@
 -- What the words behind `stub` ask for.
-use Rattle.std.specs.Prelude.{ℕ, Bool, true, false, not, ◌&&◌, nat_le, List, [], ◌∷◌, ◌++◌, length, Option, Some, None, option_and_then, Result, Ok, Err, if◌then◌else◌}
+use Rattle.std.specs.Prelude.{ℕ, Bool, true, false, not, ◌&&◌, List, [], ◌∷◌, ◌++◌, Option, Some, None, option_and_then, Result, Ok, Err, if◌then◌else◌}
 use Rattle.std.specs.Str.{bytes_eq}
 use Rattle.ifs_bytes.specs.Outcome.{◌>>=◌, check}
 use Rattle.ifs_interface.specs.declared.target.Target.{Target}
@@ -10,13 +10,14 @@ use Rattle.ifs_edit.specs.declared.element.Element.{Element}
 use Rattle.ifs_edit.specs.declared.strip.Strip.{Strip}
 use Rattle.ifs_edit.specs.Parsed.{glob_of}
 use Rattle.ifs_words.specs.declared.cause.WordCause.{WordCause}
-use Rattle.ifs_words.specs.declared.cause.WordCause.TheVariants.{Conflict, NoInput, TooManyInputs}
+use Rattle.ifs_words.specs.declared.cause.WordCause.TheVariants.{Conflict}
 use Rattle.ifs_words.specs.declared.command.StubWords.{StubWords}
 use Rattle.ifs_words.specs.declared.given.Given.{Given}
 use Rattle.ifs_words.specs.declared.settings.Setting.{Setting}
 use Rattle.ifs_words.specs.declared.settings.Setting.TheVariants as settings
 use Rattle.ifs_words.specs.Reading.{has, is_of, nothing, read_from, value_of}
 use Rattle.ifs_words.specs.Settings.{name_of, stub_settings}
+use Rattle.ifs_words.specs.Together.{paths_fit}
 use Rattle.ifs_words.specs.Values.{format_named, order_named, width_named}
 
 -- ---- what doesn't go together
@@ -43,17 +44,6 @@ no_conflict given = do
   _ ← never_both settings.Target settings.BitWidth given
   _ ← never_both settings.Target settings.Endianness given
   never_alike settings.OutputIfs settings.OutputElf given
-
--- ---- how many paths there are
-
-abbrev pub is_given : List (List ℕ) → Bool
-is_given [] = false
-is_given (p ∷ ps) = true
-
-unfoldable pub paths_fit : List (List ℕ) → Result (Unit {0}) WordCause
-paths_fit paths = do
-  _ ← check (is_given paths) NoInput
-  check (nat_le (length paths) 4096) (TooManyInputs (length paths))
 
 -- ---- the values
 
@@ -111,5 +101,5 @@ unfoldable pub stub_of : List (List ℕ) → Result StubWords WordCause
 stub_of words = do
   read ← read_from stub_settings words nothing
   _ ← no_conflict read.given
-  _ ← paths_fit read.paths
+  _ ← paths_fit 4096 read.paths
   Ok (stub_words read.given read.paths)

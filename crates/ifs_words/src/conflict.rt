@@ -1,18 +1,15 @@
-//! Options that don't go together, and the number of paths.
+//! Options that don't go together.
 
 ghost use Rattle.std.specs.Prelude.{◌≡◌, IfOk};
 ghost use Rattle.std.specs.Option.{option_copied};
 ghost use Rattle.ifs_bytes.specs.Outcome.{UnlessMemory};
-ghost use Rattle.ifs_words.specs.Stub.{conflict, is_same_value, never_alike, never_both, no_conflict, paths_fit};
+ghost use Rattle.ifs_words.specs.Stub.{conflict, is_same_value, never_alike, never_both, no_conflict};
 
 use crate::cause::WordCause;
 use crate::given::{Given, has, value_of};
 use crate::settings::Setting;
 use ifs_bytes::{Memory, Text};
 use std::alloc::Global;
-
-// The greatest number of inputs.
-const MAX_INPUTS: usize = 4096;
 
 // The conflict of two options.
 fn conflict(alloc: Global, one: Setting, other: Setting) -> Result<WordCause, Memory>
@@ -68,18 +65,4 @@ pub(crate) fn no_conflict(alloc: Global, given: &[Given]) -> Result<(), WordCaus
     never_both(alloc, Setting::Target, Setting::BitWidth, given)?;
     never_both(alloc, Setting::Target, Setting::Endianness, given)?;
     never_alike(alloc, Setting::OutputIfs, Setting::OutputElf, given)
-}
-
-// Refuses no path, or too many.
-#[tactic(auto, unfolding(crate::specs::Stub::paths_fit))]
-pub(crate) fn paths_fit(paths: &[Text]) -> Result<(), WordCause>
-    ensures { result ≡ paths_fit paths.now }
-{
-    if paths.is_empty() {
-        return Err(WordCause::NoInput);
-    }
-    if paths.len() > MAX_INPUTS {
-        return Err(WordCause::TooManyInputs(paths.len() as u64));
-    }
-    Ok(())
 }

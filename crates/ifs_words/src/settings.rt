@@ -1,7 +1,7 @@
 //! The options and flags of the commands.
 
 ghost use Rattle.std.specs.Prelude.{◌≡◌, true, false, Some, None};
-ghost use Rattle.ifs_words.specs.Settings.{row_of, name_of, stub_settings, setting_named};
+ghost use Rattle.ifs_words.specs.Settings.{row_of, name_of, stub_settings, link_settings, tbd_settings, setting_named};
 
 // An option or a flag.
 #[derive(Clone, Copy, Debug)]
@@ -23,6 +23,17 @@ pub(crate) enum Setting {
     StripNeeded,
     StripSize,
     WriteIfChanged,
+    Output,
+    Kind,
+    Entry,
+    Runpath,
+    DynamicLinker,
+    Lib,
+    ExportDynamic,
+    AllowShlibUndefined,
+    AsNeeded,
+    Now,
+    To,
 }
 
 // What the value of an option is, which is never empty and has no NUL.
@@ -42,6 +53,10 @@ pub(crate) enum Form {
     Triple,
     // A pattern of names.
     Pattern,
+    // `exec`, `pie` or `shared`.
+    Kind,
+    // `4` or `5`.
+    Version,
 }
 
 // A row of the table: the name, the form of the value, or None for a flag, and whether it may repeat.
@@ -116,6 +131,17 @@ impl Setting {
             Setting::StripNeeded => Row::flag(b"--strip-needed"),
             Setting::StripSize => Row::flag(b"--strip-size"),
             Setting::WriteIfChanged => Row::flag(b"--write-if-changed"),
+            Setting::Output => Row::valued(b"--output", Form::Text),
+            Setting::Kind => Row::valued(b"--kind", Form::Kind),
+            Setting::Entry => Row::valued(b"--entry", Form::Text),
+            Setting::Runpath => Row::valued(b"--runpath", Form::Text),
+            Setting::DynamicLinker => Row::valued(b"--dynamic-linker", Form::Text),
+            Setting::Lib => Row::repeated(b"--lib", Form::Text),
+            Setting::ExportDynamic => Row::flag(b"--export-dynamic"),
+            Setting::AllowShlibUndefined => Row::flag(b"--allow-shlib-undefined"),
+            Setting::AsNeeded => Row::flag(b"--as-needed"),
+            Setting::Now => Row::flag(b"--now"),
+            Setting::To => Row::valued(b"--to", Form::Version),
         }
     }
 
@@ -151,6 +177,35 @@ pub(crate) fn stub_settings() -> &'static [Setting]
         Setting::StripSize,
         Setting::WriteIfChanged,
     ]
+}
+
+// The options and flags of `link`.
+#[tactic(auto, unfolding(crate::specs::Settings::link_settings))]
+pub(crate) fn link_settings() -> &'static [Setting]
+    ensures { result.now ≡ link_settings }
+{
+    &[
+        Setting::Output,
+        Setting::Kind,
+        Setting::Entry,
+        Setting::Soname,
+        Setting::Runpath,
+        Setting::DynamicLinker,
+        Setting::Lib,
+        Setting::ExportDynamic,
+        Setting::AllowShlibUndefined,
+        Setting::AsNeeded,
+        Setting::Now,
+        Setting::WriteIfChanged,
+    ]
+}
+
+// The options and flags of `tbd`.
+#[tactic(auto, unfolding(crate::specs::Settings::tbd_settings))]
+pub(crate) fn tbd_settings() -> &'static [Setting]
+    ensures { result.now ≡ tbd_settings }
+{
+    &[Setting::To, Setting::Output, Setting::WriteIfChanged]
 }
 
 // The one of that name in a table.

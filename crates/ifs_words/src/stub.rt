@@ -11,25 +11,19 @@ ghost use Rattle.ifs_words.specs.Stub.{adjustment, excluded, given_target, patte
 
 use crate::cause::WordCause;
 use crate::command::{InputFormat, StubWords};
-use crate::conflict::{no_conflict, paths_fit};
+use crate::conflict::no_conflict;
 use crate::given::{Given, has, is_of, value_of};
 use crate::read::{Read, read_words};
 use crate::settings::{Setting, stub_settings};
+use crate::together::{paths_fit, text_given};
 use crate::values::{format_named, order_named, width_named};
 use ifs_bytes::{List, Memory, Order, Text, Width};
 use ifs_edit::{AdjustOptions, Glob, GlobCause, Strip};
 use ifs_interface::{Target, arch_of};
 use std::alloc::Global;
 
-// The value of an option as a text.
-fn text_given(alloc: Global, setting: Setting, given: &[Given]) -> Result<Option<Text>, Memory>
-    ensures { IfOk result (λ text. text ≡ value_of setting given.now) }
-{
-    match value_of(setting, given) {
-        Some(value) => Ok(Some(Text::from_slice(alloc, value)?)),
-        None => Ok(None),
-    }
-}
+// The greatest number of inputs.
+const MAX_INPUTS: usize = 4096;
 
 // The machine that is given.
 fn machine_given(given: &[Given]) -> Option<u16>
@@ -173,6 +167,6 @@ pub(crate) fn stub_of(alloc: Global, words: &[String]) -> Result<StubWords, Word
         next: _,
     } = read_words(alloc, stub_settings(), words)?;
     no_conflict(alloc, given.as_slice())?;
-    paths_fit(paths.as_slice())?;
+    paths_fit(MAX_INPUTS, paths.as_slice())?;
     Ok(stub_words(alloc, given.as_slice(), paths)?)
 }

@@ -116,6 +116,173 @@ fn causes_of_lines(rt: HostRuntime) -> Result<(), Fail> {
     Ok(())
 }
 
+// The cause of the words behind `link`, or `none`.
+fn told_link(alloc: Global, words: &[String]) -> Result<Text, Memory> {
+    match parse_link(alloc, words) {
+        Ok(_words) => Text::from_slice(alloc, b"none"),
+        Err(cause) => cause.printed(alloc),
+    }
+}
+
+// The cause of the words behind `tbd`, or `none`.
+fn told_tbd(alloc: Global, words: &[String]) -> Result<Text, Memory> {
+    match parse_tbd(alloc, words) {
+        Ok(_words) => Text::from_slice(alloc, b"none"),
+        Err(cause) => cause.printed(alloc),
+    }
+}
+
+// Lines of words behind `link`, and the cause of each behind a bar.
+const LINK_LINES: &str = "\
+    --output=o F|none\n\
+    --output - F G F|none\n\
+    --output=o --kind=exec F|none\n\
+    --output=o --kind pie F|none\n\
+    --output=o --kind=shared F|none\n\
+    --output=o --kind=Exec F|BadValue(--kind)\n\
+    --output=o --kind= F|BadValue(--kind)\n\
+    --output=o --kind=static F|BadValue(--kind)\n\
+    --output= F|BadValue(--output)\n\
+    --output=a\0b F|BadValue(--output)\n\
+    --entry= F|BadValue(--entry)\n\
+    --lib= F|BadValue(--lib)\n\
+    --lib=a --lib=a --output=o F|none\n\
+    --lib --lib --output=o F|none\n\
+    --lib|MissingValue(--lib)\n\
+    --now=yes F|UnwantedValue(--now)\n\
+    --as-needed --as-needed F|Repeated(--as-needed)\n\
+    --runpath=a --runpath=b F|Repeated(--runpath)\n\
+    --dynamic-linker=a --soname=b --entry=c --export-dynamic --allow-shlib-undefined --output=o F|none\n\
+    --output-ifs=o F|UnknownOption(--output-ifs=o)\n\
+    --to=4 F|UnknownOption(--to=4)\n\
+    --kind=no --now --now|BadValue(--kind)\n\
+    --now --now --kind=no|Repeated(--now)\n\
+    --lib=a --now|NoInput\n\
+    --lib=a F|MissingOption(--output)\n\
+    F -- --output=o|MissingOption(--output)\n\
+    F|MissingOption(--output)";
+
+#[test]
+fn causes_of_link(rt: HostRuntime) -> Result<(), Fail> {
+    let alloc = rt.alloc();
+    for row in LINK_LINES.split('\n') {
+        let (line, cause) = row.split_once('|').ok_or("no bar")?;
+        let words = words_in(alloc, line)?;
+        let got = told_link(alloc, words.as_slice())?;
+        assert_eq!(rt; got.as_bytes(), cause.as_bytes(), "{line}");
+    }
+    Ok(())
+}
+
+// Lines of words behind `tbd`, and the cause of each behind a bar.
+const TBD_LINES: &str = "\
+    --to=4 F|none\n\
+    F --to 5 --output=- --write-if-changed|none\n\
+    --to=3 F|BadValue(--to)\n\
+    --to=05 F|BadValue(--to)\n\
+    --to=v4 F|BadValue(--to)\n\
+    --to= F|BadValue(--to)\n\
+    --to=4 --to=4 F|Repeated(--to)\n\
+    --to|MissingValue(--to)\n\
+    --kind=pie F|UnknownOption(--kind=pie)\n\
+    --to=4|NoInput\n\
+    F|MissingOption(--to)\n\
+    F G|TooManyInputs(2)\n\
+    --to=4 F G H|TooManyInputs(3)";
+
+#[test]
+fn causes_of_tbd(rt: HostRuntime) -> Result<(), Fail> {
+    let alloc = rt.alloc();
+    for row in TBD_LINES.split('\n') {
+        let (line, cause) = row.split_once('|').ok_or("no bar")?;
+        let words = words_in(alloc, line)?;
+        let got = told_tbd(alloc, words.as_slice())?;
+        assert_eq!(rt; got.as_bytes(), cause.as_bytes(), "{line}");
+    }
+    Ok(())
+}
+
+// So many objects and so many libraries.
+fn link_of(alloc: Global, objects: usize, libs: usize) -> Result<Vec<String>, Memory> {
+    let mut words = Vec::new(alloc);
+    for _turn in 0..libs {
+        words.push(String::from_str(alloc, "--lib=a")?)?;
+    }
+    for _turn in 0..objects {
+        words.push(String::from_str(alloc, "F")?)?;
+    }
+    Ok(words)
+}
+
+#[test]
+fn many_objects_and_libraries(rt: HostRuntime) -> Result<(), Fail> {
+    let alloc = rt.alloc();
+    let rows: [(usize, usize, &[u8]); 5] = [
+        (4096, 256, b"MissingOption(--output)"),
+        (4097, 256, b"TooManyInputs(4097)"),
+        (4096, 257, b"TooManyInputs(257)"),
+        (5000, 300, b"TooManyInputs(5000)"),
+        (0, 300, b"NoInput"),
+    ];
+    for (objects, libs, cause) in rows {
+        let words = link_of(alloc, objects, libs)?;
+        let got = told_link(alloc, words.as_slice())?;
+        assert_eq!(rt; got.as_bytes(), cause);
+    }
+    Ok(())
+}
+
+#[test]
+fn values_of_link(rt: HostRuntime) -> Result<(), Fail> {
+    let alloc = rt.alloc();
+    let words = words_in(
+        alloc,
+        "a --lib=x --output=o b --kind=shared --lib y --soname=s --runpath=r --dynamic-linker=d \
+        --entry=e --as-needed --write-if-changed --lib=x",
+    )?;
+    let link = parse_link(alloc, words.as_slice())?;
+    assert_eq!(rt; link.objects.as_slice().len(), 2);
+    assert_eq!(rt; link.libs.as_slice().len(), 3);
+    assert_eq!(rt; link.output.as_bytes(), b"o".as_slice());
+    assert!(rt; link.kind == LinkKind::Shared);
+    assert_eq!(rt; link.entry_name.as_bytes(), b"e".as_slice());
+    assert!(rt; is_text(&link.soname, b"s"));
+    assert!(rt; is_text(&link.runpath, b"r"));
+    assert!(rt; is_text(&link.interp, b"d"));
+    assert!(rt; link.as_needed && link.write_if_changed);
+    assert!(rt; !link.export_dynamic && !link.allow_shlib_undefined && !link.bind_now);
+    let words = words_in(
+        alloc,
+        "--output=- --now --export-dynamic --allow-shlib-undefined F",
+    )?;
+    let link = parse_link(alloc, words.as_slice())?;
+    assert!(rt; link.libs.as_slice().is_empty());
+    assert_eq!(rt; link.output.as_bytes(), b"-".as_slice());
+    assert!(rt; link.kind == LinkKind::Exec);
+    assert_eq!(rt; link.entry_name.as_bytes(), b"_start".as_slice());
+    assert!(rt; link.soname.is_none() && link.runpath.is_none() && link.interp.is_none());
+    assert!(rt; !link.as_needed && !link.write_if_changed);
+    assert!(rt; link.export_dynamic && link.allow_shlib_undefined && link.bind_now);
+    Ok(())
+}
+
+#[test]
+fn values_of_tbd(rt: HostRuntime) -> Result<(), Fail> {
+    let alloc = rt.alloc();
+    let words = words_in(alloc, "--to=4 F")?;
+    let tbd = parse_tbd(alloc, words.as_slice())?;
+    assert_eq!(rt; tbd.input.as_bytes(), b"F".as_slice());
+    assert!(rt; tbd.version == TbdVersion::V4);
+    assert_eq!(rt; tbd.output.as_bytes(), b"-".as_slice());
+    assert!(rt; !tbd.write_if_changed);
+    let words = words_in(alloc, "--output o --write-if-changed --to=5 F")?;
+    let tbd = parse_tbd(alloc, words.as_slice())?;
+    assert!(rt; tbd.version == TbdVersion::V5);
+    assert_eq!(rt; tbd.output.as_bytes(), b"o".as_slice());
+    assert!(rt; tbd.write_if_changed);
+    Ok(())
+}
+
 // The word `stub`, and another so many times.
 fn many(alloc: Global, word: &str, count: usize) -> Result<Vec<String>, Memory> {
     let mut words = words_in(alloc, "stub")?;

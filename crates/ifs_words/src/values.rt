@@ -4,10 +4,12 @@ ghost use Rattle.std.specs.Prelude.{◌≡◌, ◌==◌, not, IfOk, is_ok};
 ghost use Rattle.std.specs.List.{list_all};
 ghost use Rattle.ifs_interface.specs.Interface.{is_proper_name};
 ghost use Rattle.ifs_edit.specs.Parsed.{glob_of};
-ghost use Rattle.ifs_words.specs.Values.{format_named, has_form, is_good, order_named, width_named};
+ghost use Rattle.ifs_words.specs.Values.{format_named, has_form, is_good, kind_named, order_named, version_named, width_named};
 
 use crate::command::InputFormat;
+use crate::link::LinkKind;
 use crate::settings::Form;
+use crate::tbd::TbdVersion;
 use ifs_bytes::{Memory, Order, Width};
 use ifs_edit::{Glob, GlobCause};
 use ifs_interface::{arch_of, triple_parts};
@@ -52,6 +54,34 @@ pub(crate) fn order_named(value: &[u8]) -> Option<Order>
     }
 }
 
+// The kind of `exec`, `pie` or `shared`.
+pub(crate) fn kind_named(value: &[u8]) -> Option<LinkKind>
+    ensures { result ≡ kind_named value.now }
+{
+    if value == b"exec".as_slice() {
+        Some(LinkKind::Exec)
+    } else if value == b"pie".as_slice() {
+        Some(LinkKind::Pie)
+    } else if value == b"shared".as_slice() {
+        Some(LinkKind::Shared)
+    } else {
+        None
+    }
+}
+
+// The version of `4` or `5`.
+pub(crate) fn version_named(value: &[u8]) -> Option<TbdVersion>
+    ensures { result ≡ version_named value.now }
+{
+    if value == b"4".as_slice() {
+        Some(TbdVersion::V4)
+    } else if value == b"5".as_slice() {
+        Some(TbdVersion::V5)
+    } else {
+        None
+    }
+}
+
 // Whether the bytes write a pattern.
 fn is_pattern(alloc: Global, value: &[u8]) -> Result<bool, Memory>
     ensures { IfOk result (λ is. is ≡ is_ok (glob_of value.now)) }
@@ -75,6 +105,8 @@ fn has_form(alloc: Global, form: Form, value: &[u8]) -> Result<bool, Memory>
         Form::Order => Ok(order_named(value).is_some()),
         Form::Triple => Ok(triple_parts(value).is_some()),
         Form::Pattern => is_pattern(alloc, value),
+        Form::Kind => Ok(kind_named(value).is_some()),
+        Form::Version => Ok(version_named(value).is_some()),
     }
 }
 
