@@ -26,8 +26,8 @@ fn check_side<S>(alloc: Global, position: u32, source: &LibSource<S>) -> Result<
     }
 }
 
-/// Refuses the first library that couldn't be read, with BadLibrary: its position, and a copy of its cause. It
-/// takes memory for that copy alone.
+/// Refuses the first library that couldn't be read, with BadLibrary: its position, and a copy of its cause.
+/// It takes memory for that copy alone.
 pub fn check_sides<S: SharedLib>(alloc: Global, libs: &[Lib<S>]) -> Result<(), LinkStop>
     requires { length libs.now ≤ 256 }
     ensures { UnlessMemory stops.Memory result (stopped (sides_checked (map (side_of S.facts) libs.now))) }
