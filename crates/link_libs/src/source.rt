@@ -53,8 +53,8 @@ fn text_source(alloc: Global, text: &[u8]) -> Result<LibSource<AnyLib>, Memory>
 }
 
 /// What bytes are as a library. Bytes that begin as an ELF file or as an archive are read as a shared
-/// library, all others as an interface text. A shared library that defines symbol versions is Versioned. Bytes
-/// that can't be read are Refused, with the cause of `Library::parse` or of `ifs_text::read`.
+/// library, all others as an interface text. A shared library that defines symbol versions is Versioned.
+/// Bytes that can't be read are Refused, with the cause of `Library::parse` or of `ifs_text::read`.
 #[tactic(auto, unfolding(crate::specs::Source::source_of))]
 pub fn read_lib(alloc: Global, bytes: &[u8]) -> Result<LibSource<AnyLib>, Memory>
     ensures { IfOk result (λ source. source ≡ meant.source_of bytes.now) }
