@@ -2,8 +2,8 @@
 //!
 //! Each option and flag is a row of one table (specs/Settings.antt), and a command names the rows that it takes. Words are
 //! read one by one (specs/Reading.antt), which gives the causes of single words, and then looked at together
-//! (specs/Together.antt, Stub.antt, Link.antt, Tbd.antt). `Command::parse` knows `stub`; `parse_link` and `parse_tbd` read the
-//! words behind the names of two commands that it doesn't know yet.
+//! (specs/Together.antt, Stub.antt, Link.antt, Tbd.antt). `Command::parse` knows `stub`; `parse_link` and `parse_tbd`
+//! read the words behind the names of two commands that it doesn't know yet.
 //!
 //! No clause says when memory runs out, so bodies of these and of `WordCause::printed` that answer `Memory` alone meet
 //! theirs; the tests have calls that succeed.

@@ -34,7 +34,7 @@ pub enum LinkKind {
     Shared,
 }
 
-/// What `link` is asked for. No text is empty or has a NUL, but those of `objects`, which may be any words.
+/// What `link` is asked for. No text is empty or has a NUL, but for those of `objects`, which may be any words.
 #[derive(Debug, Drop)]
 pub struct LinkWords {
     /// The paths of the objects in order, 1 to 4,096 of them.
@@ -130,7 +130,8 @@ fn link_of(alloc: Global, words: &[String]) -> Result<LinkWords, WordCause>
     Ok(link_words(alloc, given.as_slice(), paths, libs, output)?)
 }
 
-/// What the words behind `link` ask for, or the first cause why they ask for nothing, in the order of `Command::parse`.
+/// What the words behind `link` ask for, or the first cause why they ask for nothing: those of single words at the
+/// first word that has one, then `NoInput`, `TooManyInputs` of objects and then of libraries, and `MissingOption`.
 pub fn parse_link(alloc: Global, words: &[String]) -> Result<LinkWords, WordCause>
     ensures meant { UnlessMemory WordCause.Memory result (link_of (map string_bytes words.now)) }
     ensures usable { IfOk result CanLink }

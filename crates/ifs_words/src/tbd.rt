@@ -90,7 +90,8 @@ fn tbd_words(
     })
 }
 
-/// What the words behind `tbd` ask for, or the first cause why they ask for nothing, in the order of `Command::parse`.
+/// What the words behind `tbd` ask for, or the first cause why they ask for nothing: those of single words at the
+/// first word that has one, then `NoInput`, `TooManyInputs` and `MissingOption`.
 #[tactic(auto, unfolding(crate::specs::Tbd::tbd_of))]
 pub fn parse_tbd(alloc: Global, words: &[String]) -> Result<TbdWords, WordCause>
     ensures { UnlessMemory WordCause.Memory result (tbd_of (map string_bytes words.now)) }
