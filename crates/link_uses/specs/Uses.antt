@@ -18,12 +18,14 @@ pub record Taken : Type 0 where
   pub needed : Needed
 
 -- a reference with what it needs, or its first cause
-abbrev pub taken_by : MachineRules → LinkOptions → List ObjectRecord → Resolution → Use → Result Taken LinkRefusal
+abbrev pub taken_by : MachineRules → LinkOptions → List ObjectRecord → Resolution → Use
+    → Result Taken LinkRefusal
 taken_by rules options objects r u =
     needed_by rules options objects r u >>= (λ n. Ok (record { used = u; needed = n }))
 
 -- the references of kept sections, each with what it needs, or the first cause of the first that has any
-unfoldable pub taken_of : MachineRules → LinkOptions → List ObjectRecord → Resolution → Result (List Taken) LinkRefusal
+unfoldable pub taken_of : MachineRules → LinkOptions → List ObjectRecord → Resolution
+    → Result (List Taken) LinkRefusal
 taken_of rules options objects r = each_ok (taken_by rules options objects r) (uses_of r.dropped objects)
 
 -- a vector as the list of its items
