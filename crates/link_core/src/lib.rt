@@ -31,7 +31,7 @@ pub use layout::{CommonAt, Layout, OutSection, PieceAt};
 pub use link_laws::{
     links_see_facts, parts_fill_their_span, places_are_least, refusals_come_in_order,
 };
-pub use link_machine::{DynamicTypes, Machine, PatchCause, RefClass, Values};
+pub use link_machine::{Machine, PatchCause, RefClass, Values};
 pub use linker::Linker;
 pub use need::{Need, RefState, Unmet};
 pub use options::{LinkOptions, OutKind};

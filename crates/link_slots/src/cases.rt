@@ -5,7 +5,8 @@ ghost use Rattle.link_core.specs.Slots as meant;
 ghost use Rattle.link_slots.specs.Seen.{slots_of};
 
 use crate::words::{Fill, Fills, Slots, Word, Words};
-use link_core::{DynamicTypes, OutKind, RefState, Slot};
+use link_core::{OutKind, RefState, Slot};
+use link_machine::DynamicTypes;
 
 // A slot that is 0 in the file.
 const EMPTY: Words = Words::Single(Word::Nought);

@@ -2,7 +2,8 @@
 
 use crate::cases::slots_for;
 use crate::words::{Fills, Words};
-use link_core::{DynamicTypes, OutKind, RefState, Slot};
+use link_core::{OutKind, RefState, Slot};
+use link_machine::DynamicTypes;
 use std::test::Fail;
 
 /// R_X86_64_64, GLOB_DAT, JUMP_SLOT, RELATIVE, DTPMOD64, DTPOFF64, TPOFF64, TLSDESC.

@@ -42,7 +42,7 @@ module _ (f : Use → Result Needed LinkRefusal) where
   one_needed u (Ok k) (Err c) ts is h e = absurd (cc)
   one_needed u (Ok k) (Ok xs) ts is h e =
       let here : Right (with u k ∷ xs) =
-          ap (λ zs. k ∷ zs) (h xs refl) ∙ sym (ap (λ (q : Result Needed LinkRefusal). need_or_none u q ∷ map (λ t. need_or_none t.used (f t.used)) xs) is) in
+      ap (λ zs. k ∷ zs) (h xs refl) ∙ sym (ap (λ (q : Result Needed LinkRefusal). need_or_none u q ∷ map (λ t. need_or_none t.used (f t.used)) xs) is) in
       subst (λ (q : Result (List Taken) LinkRefusal). Right (list_in q)) e here
 
   needed_are : (us : List Use) (ts : List Taken) → each_ok takes us ≡ Ok ts → Right ts
