@@ -163,7 +163,11 @@ fn missing_fault<'a>(needed: &[&'a [u8]], entries: &[Entry]) -> Option<KeyFault<
 /// repeated one in the order of the text, else the first that is missing in the order of `needed`. Takes no
 /// memory.
 #[tactic(auto, unfolding(crate::specs::Maps::keys_fault))]
-pub fn keys_fault<'a>(keys: &[&[u8]], needed: &[&'a [u8]], entries: &'a [Entry]) -> Option<KeyFault<'a>>
+pub fn keys_fault<'a>(
+    keys: &[&[u8]],
+    needed: &[&'a [u8]],
+    entries: &'a [Entry],
+) -> Option<KeyFault<'a>>
     ensures { result ≡ keys_fault (texts keys.now) (texts needed.now) entries.now }
 {
     match key_fault(keys, entries) {
