@@ -19,7 +19,8 @@ symbol_is (ids.Name i) ids.Module h = absurd (false≢true h)
 symbol_is (ids.Local o i) (ids.Name j) h = absurd (false≢true h)
 symbol_is (ids.Local o i) (ids.Local p j) h =
     let parts = and_parts (o == p) (i == j) h in
-    ap (λ n. ids.Local n i) ((unsigned_Decides o p).0 parts.0) ∙ ap (λ n. ids.Local p n) ((unsigned_Decides i j).0 parts.1)
+    ap (λ n. ids.Local n i) ((unsigned_Decides o p).0 parts.0)
+    ∙ ap (λ n. ids.Local p n) ((unsigned_Decides i j).0 parts.1)
 symbol_is (ids.Local o i) ids.Module h = absurd (false≢true h)
 symbol_is ids.Module (ids.Name j) h = absurd (false≢true h)
 symbol_is ids.Module (ids.Local p j) h = absurd (false≢true h)
@@ -68,10 +69,14 @@ slot_is : (x y : GotSlot) → same_slot x y ≡ true → x ≡ y
 slot_is x y h =
     let parts = and_parts (same_symbol x.symbol y.symbol) (same_sort x.slot y.slot) h in
     let f : SymbolId → Slot → GotSlot = λ s a. record { symbol = s; slot = a } in
-    ap (λ s. f s x.slot) (symbol_is x.symbol y.symbol parts.0) ∙ ap (λ a. f y.symbol a) (sort_is x.slot y.slot parts.1)
+    ap (λ s. f s x.slot) (symbol_is x.symbol y.symbol parts.0)
+    ∙ ap (λ a. f y.symbol a) (sort_is x.slot y.slot parts.1)
 
 slot_itself : (x : GotSlot) → same_slot x x ≡ true
-slot_itself x = and_from (same_symbol x.symbol x.symbol) (same_sort x.slot x.slot) (symbol_itself x.symbol) (sort_itself x.slot)
+slot_itself x =
+    and_from (same_symbol x.symbol x.symbol) (same_sort x.slot x.slot) (symbol_itself x.symbol)
+    (sort_itself x.slot)
 
 pub same_slots : IsEquivalence same_slot
-same_slots = decided same_slot (λ x y. (slot_is x y, λ e. subst (λ z. same_slot x z ≡ true) e (slot_itself x)))
+same_slots =
+    decided same_slot (λ x y. (slot_is x y, λ e. subst (λ z. same_slot x z ≡ true) e (slot_itself x)))

@@ -4,21 +4,31 @@ ghost use Rattle.std.specs.Prelude.{◌≡◌, IfOk};
 ghost use Rattle.ifs_bytes.specs.Outcome.{UnlessMemory};
 ghost use Rattle.link_core.specs.Plan as meant;
 ghost use Rattle.link_needs.specs.Needs.{stopped};
-ghost use Rattle.link_plan.specs.Comes.{Comes};
-ghost use Rattle.link_plan.specs.Passes as passes;
+ghost use Rattle.link_uses.specs.Comes.{Comes};
+ghost use Rattle.link_plan.specs.Lists as made;
 
-use crate::given::Given;
 use crate::names::{exports_of, imports_of};
-use crate::pass::pass_objects;
 use elf_object::Object;
 use ifs_bytes::{List, Memory};
-use link_core::{LinkOptions, LinkStop, Machine, Plan, Resolution, names_are_bound_once};
+use link_core::{LinkOptions, LinkStop, Machine, Plan, Resolution};
 use link_needs::Lists;
+use link_uses::{Taken, taken_uses, uses_are_kept_beside_needs};
 use std::alloc::Global;
+
+// The lists of what these references need.
+fn lists_of(alloc: Global, taken: &[Taken<'_>]) -> Result<Lists, Memory>
+    ensures { IfOk result (λ lists. lists ≡ made.lists_of (made.needs_of taken.now)) }
+{
+    let mut lists = Lists::new(alloc);
+    for item in taken {
+        lists.add(&item.needed)?;
+    }
+    Ok(lists)
+}
 
 // The plan of these names and lists.
 fn plan_with(alloc: Global, names: &Resolution, lists: &Lists) -> Result<Plan, Memory>
-    ensures { IfOk result (λ plan. plan ≡ passes.plan_with names.now lists.now) }
+    ensures { IfOk result (λ plan. plan ≡ made.plan_with names.now lists.now) }
 {
     let rows = names.names.as_slice();
     Ok(Plan {
@@ -45,12 +55,8 @@ pub fn plan<M: Machine>(
     ensures { UnlessMemory LinkStop.Memory result
         (stopped (meant.plan_of M.rules options.now objects.now names.now)) }
 {
-    names_are_bound_once();
-    let given = Given {
-        options,
-        names,
-        objects,
-    };
-    let lists = pass_objects(alloc, machine, &given)?;
+    uses_are_kept_beside_needs();
+    let taken = taken_uses(alloc, machine, options, objects, names)?;
+    let lists = lists_of(alloc, taken.as_slice())?;
     Ok(plan_with(alloc, names, &lists)?)
 }

@@ -1,5 +1,0 @@
-use Rattle.link_plan.proofs.Pairs.{AreDroppedFrom}
-use Rattle.link_plan.proofs.kept.dropped_set.Given as goal
-
-abbrev pub invariant-loop-member : goal.invariant-loop-member
-invariant-loop-member l = AreDroppedFrom l.dropped l.set.keys l.member-index
