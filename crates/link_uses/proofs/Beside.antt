@@ -1,7 +1,6 @@
 -- Laws on references that are each taken with what it needs.
 use Rattle.std.proofs.Common.{◌≡◌, List, [], ◌∷◌, map, Result, Ok, Err, refl, sym, ap, ◌∙◌, subst}
 use Rattle.ifs_bytes.specs.Outcome.{◌>>=◌}
-use Rattle.link_core.specs.declared.plan.Plan.{Plan}
 use Rattle.link_core.specs.declared.refusal.LinkRefusal.{LinkRefusal}
 use Rattle.link_core.specs.Lists.{each_ok}
 use Rattle.link_core.specs.Plan.{Needed, needed_by, plan_of, planned}

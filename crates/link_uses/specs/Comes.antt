@@ -1,4 +1,4 @@
--- What a plan is made from.
+-- What the references of a link are taken from.
 use Rattle.std.specs.Prelude.{◌<◌, ◌≤◌, ◌^◌, List, length, All}
 use Rattle.elf_object.specs.Record.{ObjectRecord}
 use Rattle.link_core.specs.declared.options.LinkOptions.{LinkOptions}

@@ -9,8 +9,9 @@ ghost use Rattle.link_uses.specs.Uses.{taken_of, seen};
 use crate::given::Given;
 use crate::pass::pass_objects;
 use elf_object::Object;
-use link_core::{LinkOptions, LinkStop, Machine, Resolution, names_are_bound_once};
+use link_core::{At, LinkOptions, LinkStop, Machine, Resolution, names_are_bound_once};
 use link_needs::{Needed, Use};
+use link_order::Referring;
 use std::alloc::Global;
 use std::marker::Model;
 
@@ -29,6 +30,14 @@ impl<'a> Model for Taken<'a> {
     ghost Value = { TakenMeant };
 
     ghost view = { λ t. record { used = t.used; needed = t.needed } };
+}
+
+impl<'a> Referring for Taken<'a> {
+    ghost use_of = { λ t. t.used };
+
+    fn at(&self) -> At {
+        self.used.at()
+    }
 }
 
 /// The references of the kept sections of these objects, by object, section and index, each with what it
