@@ -44,10 +44,12 @@ AreKept dropped object o flags = (section : ℕ) → has_flag flags section ≡ 
 
 -- the symbol in a row, by a table of all rows
 abbrev pub looked_up : Resolution → ℕ → List (Option Target) → ℕ → Option TargetMeant
-looked_up r object table row = option_map_or (option_map (target_seen r)) (slice_get table row) (Some (no_symbol object))
+looked_up r object table row =
+    option_map_or (option_map (target_seen r)) (slice_get table row) (Some (no_symbol object))
 
 abbrev pub AreTargets : Given → ℕ → ObjectRecord → List (Option Target) → Type 0
-AreTargets g object o table = (row : ℕ) → looked_up g.names object table row ≡ target_at g.names g.objects object o row
+AreTargets g object o table =
+    (row : ℕ) → looked_up g.names object table row ≡ target_at g.names g.objects object o row
 
 -- ---- one more reference
 
@@ -59,12 +61,14 @@ abbrev pub use_of : ℕ → ObjectRecord → Reference → Use
 use_of object o reference = record { object = object; record_of = o; reference = reference }
 
 -- the references after one more, whose section is kept or not, and whose symbol is this one
-unfoldable pub turn_with : MachineRules → LinkOptions → Bool → Option TargetMeant → List Taken → Use → Result (List Taken) LinkRefusal
+unfoldable pub turn_with : MachineRules → LinkOptions → Bool → Option TargetMeant → List Taken → Use
+    → Result (List Taken) LinkRefusal
 turn_with rules options kept target s u =
     if kept then needed_with rules options u target >>= (λ n. Ok (after s u n)) else Ok s
 
 -- the references after one more of an object
-unfoldable pub reference_turn : MachineRules → Given → ℕ → ObjectRecord → List Taken → Reference → Result (List Taken) LinkRefusal
+unfoldable pub reference_turn : MachineRules → Given → ℕ → ObjectRecord → List Taken → Reference
+    → Result (List Taken) LinkRefusal
 reference_turn rules g object o s reference =
     if is_kept g.names.dropped object o reference.section
     then needed_by rules g.options g.objects g.names (use_of object o reference)
@@ -84,7 +88,8 @@ goes turn s [] = Ok s
 goes turn s (x ∷ xs) = turn s x >>= (λ next. goes turn next xs)
 
 -- the references after those of one more object
-unfoldable pub object_turn : MachineRules → Given → List Taken → ℕ × ObjectRecord → Result (List Taken) LinkRefusal
+unfoldable pub object_turn : MachineRules → Given → List Taken → ℕ × ObjectRecord
+    → Result (List Taken) LinkRefusal
 object_turn rules g s o = goes (reference_turn rules g o.0 o.1) s o.1.references
 
 -- the references after those of the objects from one on

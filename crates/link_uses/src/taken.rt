@@ -43,8 +43,8 @@ impl<'a> Referring for Taken<'a> {
 /// The references of the kept sections of these objects, by object, section and index, each with what it
 /// needs, where `names` is what their names stand for under the same options. The first reference that can't
 /// be taken or can't have what it needs gives the refusal: Unsupported, Discarded, TlsMismatch,
-/// TextRelocation, NotPic, CopyRelocation or CanonicalPlt. There are at most 4,096 objects, each of fewer than
-/// 2^32 bytes.
+/// TextRelocation, NotPic, CopyRelocation or CanonicalPlt. There are at most 4,096 objects, each of fewer
+/// than 2^32 bytes.
 pub fn taken_uses<'a, M: Machine>(
     alloc: Global,
     machine: &M,

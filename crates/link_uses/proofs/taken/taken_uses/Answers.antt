@@ -9,6 +9,8 @@ use Rattle.link_uses.proofs.taken.taken_uses.Goals as goal
 
 pub returns : goal.returns
 returns g c =
-    subst (λ (r : Result (List Taken) LinkRefusal). UnlessMemory stops.Memory (seen c.pass_objects.result) (stopped r))
-    (taken_is g.M.Machine.rules (record { options = c.args.options.now; names = c.args.names.now; objects = c.args.objects.now }))
+    subst (λ (r : Result (List Taken) LinkRefusal). UnlessMemory stops.Memory (seen c.pass_objects.result)
+    (stopped r))
+    (taken_is g.M.Machine.rules
+    (record { options = c.args.options.now; names = c.args.names.now; objects = c.args.objects.now }))
     c.pass_objects.ensures
