@@ -1,0 +1,7 @@
+use Rattle.std.proofs.Common.{◌≡◌, drop}
+use Rattle.yaml_maps.specs.Maps.{first_of}
+use Rattle.tbd_v4_read.specs.Faults.{group_value_fault}
+use Rattle.tbd_v4_read.proofs.faults.group_values_fault.Given as goal
+
+abbrev pub invariant-loop-entry : goal.invariant-loop-entry
+invariant-loop-entry l = first_of group_value_fault (drop l.entry-index l.entries) ≡ first_of group_value_fault l.entries
