@@ -52,21 +52,26 @@ unfoldable pub symbol_in : Section → SymbolKind → List ℕ → Node → Opti
 symbol_in section kind targets item = option_map (symbol section kind targets) (name_in item)
 
 -- the names of a list
-abbrev pub listed : Section → SymbolKind → List ℕ → List ℕ → List Entry → List TbdSymbol
+unfoldable pub listed : Section → SymbolKind → List ℕ → List ℕ → List Entry → List TbdSymbol
 listed section kind targets key group = filter_map (symbol_in section kind targets) (items_at key group)
 
 -- the name of an umbrella
-abbrev pub umbrella_of : Section → List ℕ → List Entry → List TbdSymbol
+unfoldable pub umbrella_of : Section → List ℕ → List Entry → List TbdSymbol
 umbrella_of section targets group =
     option_to_list (option_and_then (symbol_in section kinds.Global targets) (value_at (codes "umbrella") group))
+
+-- the symbols of Objective-C
+unfoldable pub objc_symbols : Section → List ℕ → List Entry → List TbdSymbol
+objc_symbols section targets group =
+    listed section kinds.ObjcClass targets (codes "objc-classes") group
+    ++ listed section kinds.ObjcEhType targets (codes "objc-eh-types") group
+    ++ listed section kinds.ObjcIvar targets (codes "objc-ivars") group
 
 -- the symbols of each kind
 unfoldable pub symbols_of : Section → List ℕ → List Entry → List TbdSymbol
 symbols_of section targets group =
     listed section kinds.Global targets (codes "symbols") group
-    ++ listed section kinds.ObjcClass targets (codes "objc-classes") group
-    ++ listed section kinds.ObjcEhType targets (codes "objc-eh-types") group
-    ++ listed section kinds.ObjcIvar targets (codes "objc-ivars") group
+    ++ objc_symbols section targets group
     ++ listed section kinds.Weak targets (codes "weak-symbols") group
     ++ listed section kinds.ThreadLocal targets (codes "thread-local-symbols") group
 
@@ -93,40 +98,51 @@ unfoldable pub names_once : List TbdSymbol → List Named
 names_once names = map named (united names)
 
 -- flags are said for all targets
-unfoldable pub flags_in : List TbdTarget → List Entry → List TbdSymbol
-flags_in targets entries = listed Exported kinds.Global (places 0 (length targets)) (codes "flags") entries
+unfoldable pub flags_of : List TbdTarget → List Entry → List Named
+flags_of targets entries = names_once (listed Exported kinds.Global (places 0 (length targets)) (codes "flags") entries)
 
-unfoldable pub symbols_in : List TbdTarget → List Entry → List TbdSymbol
-symbols_in targets entries =
-    names_at Symbols Exported (codes "exports") targets entries
+unfoldable pub umbrellas_of : List TbdTarget → List Entry → List Named
+umbrellas_of targets entries = names_once (names_at Umbrella Exported (codes "parent-umbrella") targets entries)
+
+unfoldable pub clients_of : List TbdTarget → List Entry → List Named
+clients_of targets entries = names_once (names_at Clients Exported (codes "allowable-clients") targets entries)
+
+unfoldable pub reexported_of : List TbdTarget → List Entry → List Named
+reexported_of targets entries = names_once (names_at Libraries Exported (codes "reexported-libraries") targets entries)
+
+-- the symbols of all sections
+unfoldable pub sectioned : List TbdTarget → List Entry → List TbdSymbol
+sectioned targets entries =
+    united
+    (names_at Symbols Exported (codes "exports") targets entries
     ++ names_at Symbols Reexported (codes "reexports") targets entries
-    ++ names_at Symbols Undefined (codes "undefineds") targets entries
+    ++ names_at Symbols Undefined (codes "undefineds") targets entries)
 
 -- ---- the whole
 
-abbrev pub install_name : List Entry → List ℕ
+unfoldable pub install_name : List Entry → List ℕ
 install_name entries = unwrap_or (option_and_then name_in (value_at (codes "install-name") entries)) []
 
-abbrev pub version_at : List ℕ → List Entry → Version
+unfoldable pub version_at : List ℕ → List Entry → Version
 version_at key entries = unwrap_or (option_and_then version_in (value_at key entries)) first_version
 
-abbrev pub swift_abi : List Entry → Option ℕ
+unfoldable pub swift_abi : List Entry → Option ℕ
 swift_abi entries = option_and_then byte_in (value_at (codes "swift-abi-version") entries)
 
 -- the parts of a library with these targets
 unfoldable pub parts_with : List TbdTarget → List Entry → DylibParts
 parts_with targets entries = record {
   targets = targets;
-  flags = names_once (flags_in targets entries);
+  flags = flags_of targets entries;
   install_name = install_name entries;
   current = version_at (codes "current-version") entries;
   compatible = version_at (codes "compatibility-version") entries;
   swift_abi = swift_abi entries;
-  umbrellas = names_once (names_at Umbrella Exported (codes "parent-umbrella") targets entries);
-  clients = names_once (names_at Clients Exported (codes "allowable-clients") targets entries);
-  reexported = names_once (names_at Libraries Exported (codes "reexported-libraries") targets entries);
+  umbrellas = umbrellas_of targets entries;
+  clients = clients_of targets entries;
+  reexported = reexported_of targets entries;
   rpaths = [];
-  symbols = united (symbols_in targets entries);
+  symbols = sectioned targets entries;
 }
 
 abbrev pub parts_of : List Entry → DylibParts
