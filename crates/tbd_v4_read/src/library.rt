@@ -6,7 +6,7 @@ ghost use Rattle.std.specs.Option.{option_copied, option_to_list};
 ghost use Rattle.ifs_bytes.specs.Places.{places};
 ghost use Rattle.tbd_core.specs.Union.{united};
 ghost use Rattle.tbd_v4_read.specs.Values.{name_in};
-ghost use Rattle.tbd_v4_read.specs.Library.{target_in, targets_of, place_in, places_of, symbol, symbol_in, listed, umbrella_of, objc_symbols, symbols_of, names_of_group, names_in_group, names_at, named, names_once, flags_of, umbrellas_of, clients_of, reexported_of,  sectioned, install_name, version_at, swift_abi, parts_with, parts_of};
+ghost use Rattle.tbd_v4_read.specs.Library.{target_in, targets_of, place_in, places_of, symbol, symbol_in, listed, umbrella_of, objc_symbols, symbols_of, names_of_group, names_in_group, names_at, named, names_once, flags_of, umbrellas_of, clients_of, reexported_of, sectioned, install_name, version_at, swift_abi, parts_with, parts_of};
 ghost use Rattle.tbd_core.specs.declared.symbol.Section.TheVariants as section;
 ghost use Rattle.tbd_v4_read.specs.declared.keys.GroupKind.TheVariants as kind;
 
@@ -15,8 +15,8 @@ use crate::values::{byte_in, name_in, version_in};
 use ifs_bytes::{List, Memory, Text};
 use std::alloc::Global;
 use tbd_core::{
-    Dylib, DylibParts, FIRST_VERSION, Named, Part, Section, SymbolKind, TbdSymbol, TbdTarget, Version,
-    place_of, united,
+    Dylib, DylibParts, FIRST_VERSION, Named, Part, Section, SymbolKind, TbdSymbol, TbdTarget,
+    Version, place_of, united,
 };
 use yaml_maps::value_at;
 use yaml_profile::{Entry, Node};
@@ -187,9 +187,30 @@ fn push_objc(
 ) -> Result<(), Memory>
     ensures { OnOk result (names.new.items ≡ names.old.items ++ objc_symbols said.now.section said.now.targets.now group.now) }
 {
-    push_listed(alloc, names, said, SymbolKind::ObjcClass, group, b"objc-classes")?;
-    push_listed(alloc, names, said, SymbolKind::ObjcEhType, group, b"objc-eh-types")?;
-    push_listed(alloc, names, said, SymbolKind::ObjcIvar, group, b"objc-ivars")?;
+    push_listed(
+        alloc,
+        names,
+        said,
+        SymbolKind::ObjcClass,
+        group,
+        b"objc-classes",
+    )?;
+    push_listed(
+        alloc,
+        names,
+        said,
+        SymbolKind::ObjcEhType,
+        group,
+        b"objc-eh-types",
+    )?;
+    push_listed(
+        alloc,
+        names,
+        said,
+        SymbolKind::ObjcIvar,
+        group,
+        b"objc-ivars",
+    )?;
     Ok(())
 }
 
@@ -206,7 +227,14 @@ fn push_symbols(
     push_listed(alloc, names, said, SymbolKind::Global, group, b"symbols")?;
     push_objc(alloc, names, said, group)?;
     push_listed(alloc, names, said, SymbolKind::Weak, group, b"weak-symbols")?;
-    push_listed(alloc, names, said, SymbolKind::ThreadLocal, group, b"thread-local-symbols")?;
+    push_listed(
+        alloc,
+        names,
+        said,
+        SymbolKind::ThreadLocal,
+        group,
+        b"thread-local-symbols",
+    )?;
     Ok(())
 }
 
@@ -325,7 +353,13 @@ fn umbrellas_of(
 ) -> Result<List<Named>, Memory>
     ensures { IfOk result (λ once. once ≡ umbrellas_of targets.now entries.now) }
 {
-    names_of_key(alloc, GroupKind::Umbrella, targets, entries, b"parent-umbrella")
+    names_of_key(
+        alloc,
+        GroupKind::Umbrella,
+        targets,
+        entries,
+        b"parent-umbrella",
+    )
 }
 
 #[tactic(auto, unfolding(crate::specs::Library::clients_of))]
@@ -336,7 +370,13 @@ fn clients_of(
 ) -> Result<List<Named>, Memory>
     ensures { IfOk result (λ once. once ≡ clients_of targets.now entries.now) }
 {
-    names_of_key(alloc, GroupKind::Clients, targets, entries, b"allowable-clients")
+    names_of_key(
+        alloc,
+        GroupKind::Clients,
+        targets,
+        entries,
+        b"allowable-clients",
+    )
 }
 
 #[tactic(auto, unfolding(crate::specs::Library::reexported_of))]
@@ -347,7 +387,13 @@ fn reexported_of(
 ) -> Result<List<Named>, Memory>
     ensures { IfOk result (λ once. once ≡ reexported_of targets.now entries.now) }
 {
-    names_of_key(alloc, GroupKind::Libraries, targets, entries, b"reexported-libraries")
+    names_of_key(
+        alloc,
+        GroupKind::Libraries,
+        targets,
+        entries,
+        b"reexported-libraries",
+    )
 }
 
 // The flags, which are said for all targets.
@@ -361,7 +407,14 @@ fn flags_of(alloc: Global, targets: &[TbdTarget], entries: &[Entry]) -> Result<L
         section: Section::Exported,
         targets: places.as_slice(),
     };
-    push_listed(alloc, &mut names, &said, SymbolKind::Global, entries, b"flags")?;
+    push_listed(
+        alloc,
+        &mut names,
+        &said,
+        SymbolKind::Global,
+        entries,
+        b"flags",
+    )?;
     names_once(alloc, names)
 }
 
@@ -391,9 +444,30 @@ fn sectioned(
     ensures { IfOk result (λ symbols. symbols ≡ sectioned targets.now entries.now) }
 {
     let mut symbols = Vec::new(alloc);
-    push_section(alloc, &mut symbols, Section::Exported, targets, entries, b"exports")?;
-    push_section(alloc, &mut symbols, Section::Reexported, targets, entries, b"reexports")?;
-    push_section(alloc, &mut symbols, Section::Undefined, targets, entries, b"undefineds")?;
+    push_section(
+        alloc,
+        &mut symbols,
+        Section::Exported,
+        targets,
+        entries,
+        b"exports",
+    )?;
+    push_section(
+        alloc,
+        &mut symbols,
+        Section::Reexported,
+        targets,
+        entries,
+        b"reexports",
+    )?;
+    push_section(
+        alloc,
+        &mut symbols,
+        Section::Undefined,
+        targets,
+        entries,
+        b"undefineds",
+    )?;
     united(alloc, symbols)
 }
 

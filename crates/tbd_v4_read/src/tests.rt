@@ -38,14 +38,38 @@ fn libraries(rt: HostRuntime) -> Result<(), Fail> {
         (b"install-name: ''\ntbd-version: 3", b"MissingKey(targets)"),
         (b"targets: []\nflags: a", b"MissingKey(install-name)"),
         (b"targets: []\ninstall-name: ''", b"BadVersion"),
-        (b"targets: []\ninstall-name: ''\ntbd-version: 04", b"BadVersion"),
-        (b"tbd-version: 4\ninstall-name: ''\ntargets: []", b"BadValue(install-name)"),
-        (b"tbd-version: 4\ntargets: []\ninstall-name: ''", b"BadValue(targets)"),
-        (b"tbd-version: 4\ntargets: [x, y, x]\ninstall-name: a", b"BadValue(targets)"),
-        (b"tbd-version: 4\ntargets: [x, '']\ninstall-name: a", b"BadValue(targets)"),
-        (b"tbd-version: 4\ntargets: x\ninstall-name: a", b"BadValue(targets)"),
-        (b"tbd-version: 4\ntargets: [x]\ninstall-name: \"a\\0\"", b"BadValue(install-name)"),
-        (b"tbd-version: 4\ntargets: [x]\ninstall-name: a\nflags: [{}]", b"BadValue(flags)"),
+        (
+            b"targets: []\ninstall-name: ''\ntbd-version: 04",
+            b"BadVersion",
+        ),
+        (
+            b"tbd-version: 4\ninstall-name: ''\ntargets: []",
+            b"BadValue(install-name)",
+        ),
+        (
+            b"tbd-version: 4\ntargets: []\ninstall-name: ''",
+            b"BadValue(targets)",
+        ),
+        (
+            b"tbd-version: 4\ntargets: [x, y, x]\ninstall-name: a",
+            b"BadValue(targets)",
+        ),
+        (
+            b"tbd-version: 4\ntargets: [x, '']\ninstall-name: a",
+            b"BadValue(targets)",
+        ),
+        (
+            b"tbd-version: 4\ntargets: x\ninstall-name: a",
+            b"BadValue(targets)",
+        ),
+        (
+            b"tbd-version: 4\ntargets: [x]\ninstall-name: \"a\\0\"",
+            b"BadValue(install-name)",
+        ),
+        (
+            b"tbd-version: 4\ntargets: [x]\ninstall-name: a\nflags: [{}]",
+            b"BadValue(flags)",
+        ),
         (
             b"tbd-version: 4\ntargets: [x]\ninstall-name: a\ncurrent-version: 1.256",
             b"BadValue(current-version)",
@@ -58,8 +82,14 @@ fn libraries(rt: HostRuntime) -> Result<(), Fail> {
             b"tbd-version: 4\ntargets: [x]\ninstall-name: a\nswift-abi-version: 256",
             b"BadValue(swift-abi-version)",
         ),
-        (b"tbd-version: 4\ntargets: [x]\ninstall-name: a\nexports: {}", b"BadValue(exports)"),
-        (b"tbd-version: 4\ntargets: [x]\ninstall-name: a\nreexports: [1]", b"BadValue(reexports)"),
+        (
+            b"tbd-version: 4\ntargets: [x]\ninstall-name: a\nexports: {}",
+            b"BadValue(exports)",
+        ),
+        (
+            b"tbd-version: 4\ntargets: [x]\ninstall-name: a\nreexports: [1]",
+            b"BadValue(reexports)",
+        ),
         (
             b"tbd-version: 4\ntargets: [x]\ninstall-name: a\nexports: [{symbols: a, symbol: b}]",
             b"UnknownKey(symbol)",
