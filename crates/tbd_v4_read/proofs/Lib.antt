@@ -1,2 +1,5 @@
+mod Ascend
+mod Gathered
 mod Joined
 mod Places
+mod UnitedNormal
