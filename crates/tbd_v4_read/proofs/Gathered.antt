@@ -120,7 +120,7 @@ found_at p xs h =
 
 -- ---- the targets of the library, and those of a group among them
 
-is_there : {X : Type 0} (o : Option X) → is_some o ≡ true → (x : X) × (o ≡ Some x)
+pub is_there : {X : Type 0} (o : Option X) → is_some o ≡ true → (x : X) × (o ≡ Some x)
 is_there None h = absurd (false≢true h)
 is_there (Some x) h = (x, refl)
 
@@ -139,7 +139,7 @@ stands_is name (item ∷ items) h =
     ∙ ap (λ b. same_name here.0 name || b) rest
     ∙ ap (λ o. is_text name o || list_any (λ item. is_text name (text_of item)) items) (sym (text_is item here.0 here.1))
 
-option_or_none : {X : Type 0} (a b : Option X) → option_or a b ≡ None → (a ≡ None) × (b ≡ None)
+pub option_or_none : {X : Type 0} (a b : Option X) → option_or a b ≡ None → (a ≡ None) × (b ≡ None)
 option_or_none None b h = (refl, h)
 option_or_none (Some x) b h = absurd (none-some x (sym h))
 

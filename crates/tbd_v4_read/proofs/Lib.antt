@@ -1,5 +1,7 @@
 mod Ascend
+mod Faultless
 mod Gathered
 mod Joined
+mod Normal
 mod Places
 mod UnitedNormal
