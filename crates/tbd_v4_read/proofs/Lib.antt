@@ -1,4 +1,5 @@
 mod Ascend
+mod Documents
 mod Faultless
 mod Gathered
 mod Joined

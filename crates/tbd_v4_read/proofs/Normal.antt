@@ -18,13 +18,15 @@ use Rattle.tbd_core.specs.declared.symbol.SymbolKind.{SymbolKind}
 use Rattle.tbd_core.specs.declared.symbol.SymbolKind.TheVariants as kinds
 use Rattle.tbd_core.specs.declared.symbol.TbdSymbol.{TbdSymbol}
 use Rattle.tbd_core.specs.declared.dylib.TbdTarget.{TbdTarget}
+use Rattle.tbd_core.specs.declared.dylib.DylibParts.{DylibParts}
+use Rattle.tbd_core.specs.declared.dylib.DylibField.TheVariants as field
 use Rattle.tbd_core.specs.Normal.{is_some_list, distinct, are_targets, are_names, are_symbols, broken_list, first_broken, unless_normal}
 use Rattle.tbd_v4_read.specs.declared.keys.GroupKind.{GroupKind}
 use Rattle.tbd_v4_read.specs.declared.keys.GroupKind.TheVariants.{Umbrella, Clients, Libraries, Symbols}
 use Rattle.tbd_v4_read.specs.Keys.{library_keys_fault, group_kind, items_at, map_entries}
 use Rattle.tbd_v4_read.specs.Values.{name_in, all_names, some_names, stands_again, stands_in, all_differ, different_names}
 use Rattle.tbd_v4_read.specs.Faults.{group_fault, value_fault, version_fault, unknown_in, unknown_in_group, unknown_at, unknown_target, values_fault, library_fault}
-use Rattle.tbd_v4_read.specs.Library.{target, target_in, targets_of, place_in, places_of, symbol, symbol_in, listed, umbrella_of, objc_symbols, symbols_of, names_of_group, names_in_group, names_at, flags_of, umbrellas_of, clients_of, reexported_of, sectioned, install_name, parts_with, parts_of}
+use Rattle.tbd_v4_read.specs.Library.{target, target_in, targets_of, place_in, places_of, symbol, symbol_in, listed, umbrella_of, objc_symbols, symbols_of, names_of_group, names_in_group, names_at, flags_of, umbrellas_of, clients_of, reexported_of, sectioned, names_once, install_name, parts_with, parts_of}
 use Rattle.tbd_v4_read.proofs.Ascend.{fit}
 use Rattle.tbd_v4_read.proofs.UnitedNormal.{fits, is_plain, symbols_normal, names_normal}
 use Rattle.tbd_v4_read.proofs.Gathered.{passes, all_given, both_pass, one_passes, good_name, symbol_fits, places_fit, stands_is, is_there, text_is, option_or_none}
@@ -203,3 +205,70 @@ module _ (entries : List Entry) (right : first_of value_fault entries ≡ None) 
   unfolding names_at
   names_fit key kind section of_kind =
       gathered key kind section (items_at key entries) (groups_right key kind entries of_kind right) (groups_known libs key kind entries of_kind all_known)
+
+  -- ---- the parts
+
+  abbrev count : ℕ
+  count = length targets
+
+  targets_there : is_some_list targets ≡ true
+  targets_there = targets_some libs (and_parts (some_names libs) (all_differ libs) targets_right).0
+
+  flags_normal : are_names count (flags_of targets entries) ≡ true
+  unfolding flags_of
+  flags_normal =
+      names_normal count (listed Exported kinds.Global (places 0 count) (codes "flags") entries) (listed_fit count Exported (places 0 count) (all_fit targets targets_there) entries kinds.Global (codes "flags")) (plain_listed (places 0 count) (codes "flags") entries)
+
+  lists_normal : (key : List ℕ) (kind : GroupKind) → is_list kind ≡ true → group_kind key ≡ Some kind → are_names count (names_once (names_at kind Exported key targets entries)) ≡ true
+  lists_normal key kind h of_kind =
+      names_normal count (names_at kind Exported key targets entries) (names_fit key kind Exported of_kind) (names_plain kind h key targets entries)
+
+  umbrellas_normal : are_names count (umbrellas_of targets entries) ≡ true
+  unfolding umbrellas_of
+  umbrellas_normal = lists_normal (codes "parent-umbrella") Umbrella refl refl
+
+  clients_normal : are_names count (clients_of targets entries) ≡ true
+  unfolding clients_of
+  clients_normal = lists_normal (codes "allowable-clients") Clients refl refl
+
+  reexported_normal : are_names count (reexported_of targets entries) ≡ true
+  unfolding reexported_of
+  reexported_normal = lists_normal (codes "reexported-libraries") Libraries refl refl
+
+  sectioned_normal : are_symbols count (sectioned targets entries) ≡ true
+  unfolding sectioned
+  sectioned_normal =
+      let exported = names_at Symbols Exported (codes "exports") targets entries in
+      let reexported = names_at Symbols Reexported (codes "reexports") targets entries in
+      let wanted = names_at Symbols Undefined (codes "undefineds") targets entries in
+      let first = both_pass (fits count) exported reexported (names_fit (codes "exports") Symbols Exported refl) (names_fit (codes "reexports") Symbols Reexported refl) in
+      symbols_normal count (exported ++ reexported ++ wanted) (both_pass (fits count) (exported ++ reexported) wanted first (names_fit (codes "undefineds") Symbols Undefined refl))
+
+  lists_unbroken : broken_list (parts_with targets entries) ≡ None
+  unfolding broken_list parts_with are_names
+  lists_unbroken =
+      λ i. option_or (unless_normal (umbrellas_normal i) field.Umbrellas)
+      (option_or (unless_normal (clients_normal i) field.Clients)
+      (option_or (unless_normal (reexported_normal i) field.Reexported)
+      (option_or None
+      (unless_normal (sectioned_normal i) field.Symbols))))
+
+  unbroken : is_proper_name (install_name entries) ≡ true → first_broken (parts_with targets entries) ≡ None
+  unfolding first_broken parts_with
+  unbroken proper =
+      (λ i. option_or (unless_normal (targets_normal libs targets_right i) field.Targets)
+      (option_or (unless_normal (flags_normal i) field.Flags)
+      (option_or (unless_normal (proper i) field.InstallName)
+      (broken_list (parts_with targets entries)))))
+      ∙ lists_unbroken
+
+-- the parts of a library with which nothing is wrong
+pub normal_parts : (entries : List Entry) (targets : List TbdTarget) (parts : DylibParts) → library_fault entries ≡ None → targets ≡ targets_of entries → parts ≡ parts_with targets entries → first_broken parts ≡ None
+unfolding library_fault values_fault unknown_target targets_of
+normal_parts entries targets parts none targets_are parts_are =
+    let keys = option_or_none (library_keys_fault entries) (option_or (version_fault entries) (values_fault entries)) none in
+    let behind = option_or_none (version_fault entries) (values_fault entries) keys.1 in
+    let values = option_or_none (first_of value_fault entries) (unknown_target entries) behind.1 in
+    let right = library_targets entries keys.0 values.0 in
+    ap first_broken (parts_are ∙ ap (λ ts. parts_with ts entries) targets_are)
+    ∙ unbroken entries values.0 right values.1 (library_name entries keys.0 values.0)
