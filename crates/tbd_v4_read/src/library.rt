@@ -1,11 +1,12 @@
 //! What a library says, where nothing is wrong with it.
 
-ghost use Rattle.std.specs.Prelude.{◌≡◌, ◌++◌, ◌∷◌, [], Some, map, length, unwrap_or, option_and_then, IfOk, OnOk};
+ghost use Rattle.std.specs.Prelude.{◌≡◌, ◌++◌, ◌∷◌, [], None, Some, map, length, unwrap_or, option_and_then, IfOk, OnOk};
 ghost use Rattle.std.specs.List.{filter_map, flat_map};
 ghost use Rattle.std.specs.Option.{option_copied, option_to_list};
 ghost use Rattle.ifs_bytes.specs.Places.{places};
 ghost use Rattle.tbd_core.specs.Union.{united};
 ghost use Rattle.tbd_v4_read.specs.Values.{name_in};
+ghost use Rattle.tbd_v4_read.specs.Faults.{library_fault};
 ghost use Rattle.tbd_v4_read.specs.Library.{target_in, targets_of, place_in, places_of, symbol, symbol_in, listed, umbrella_of, objc_symbols, symbols_of, names_of_group, names_in_group, names_at, named, names_once, flags_of, umbrellas_of, clients_of, reexported_of, sectioned, install_name, version_at, swift_abi, parts_with, parts_of};
 ghost use Rattle.tbd_core.specs.declared.symbol.Section.TheVariants as section;
 ghost use Rattle.tbd_v4_read.specs.declared.keys.GroupKind.TheVariants as kind;
@@ -537,20 +538,13 @@ fn parts_with(
     })
 }
 
-// The library of parts, which are in normal form; this is looked at again here.
-fn whole(parts: DylibParts) -> Result<Dylib, Memory>
-    ensures { IfOk result (λ dylib. dylib ≡ parts) }
-{
-    match Dylib::new(parts) {
-        Ok(dylib) => Ok(dylib),
-        Err(_) => Err(Memory),
-    }
-}
-
-/// What a library says, where nothing is wrong with it.
+/// What a library says, with which nothing is wrong. It is in normal form, which isn't looked at again.
+#[tactic(auto, using(crate::proofs::Normal::normal_parts))]
 pub(crate) fn library(alloc: Global, entries: &[Entry]) -> Result<Dylib, Memory>
+    requires { library_fault entries.now ≡ None }
     ensures { IfOk result (λ dylib. dylib ≡ parts_of entries.now) }
 {
     let targets = targets_of(alloc, entries)?;
-    whole(parts_with(alloc, targets, entries)?)
+    let parts = parts_with(alloc, targets, entries)?;
+    Ok(Dylib::of_normal(parts))
 }

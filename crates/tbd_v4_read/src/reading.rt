@@ -1,6 +1,6 @@
 //! A text to its libraries.
 
-ghost use Rattle.std.specs.Prelude.{◌≡◌, [], map, is_some, unwrap_or, IfOk};
+ghost use Rattle.std.specs.Prelude.{◌≡◌, None, [], map, is_some, unwrap_or, IfOk};
 ghost use Rattle.std.specs.List.{list_all};
 ghost use Rattle.std.specs.Option.{option_copied};
 ghost use Rattle.ifs_bytes.specs.Outcome.{UnlessMemory};
@@ -75,15 +75,18 @@ fn documents_fault<'a>(documents: &'a [Document<'_>]) -> Option<Fault<'a>>
 }
 
 // The library of a document with which nothing is wrong.
-#[tactic(auto, unfolding(crate::specs::Text::document_parts))]
+#[tactic(auto, unfolding(crate::specs::Text::document_parts, crate::specs::Text::document_fault))]
 fn document_library(alloc: Global, document: &Document) -> Result<Dylib, Memory>
+    requires { document_fault document.now ≡ None }
     ensures { IfOk result (λ dylib. dylib ≡ document_parts document.now) }
 {
     library(alloc, map_in(document))
 }
 
 // The library of each document.
+#[tactic(auto, using(crate::proofs::Documents::each_right))]
 fn libraries(alloc: Global, documents: &[Document]) -> Result<List<Dylib>, Memory>
+    requires { first_of document_fault documents.now ≡ None }
     ensures { IfOk result (λ dylibs. dylibs ≡ map document_parts documents.now) }
 {
     let mut dylibs = Vec::with_capacity(alloc, documents.len())?;
@@ -94,8 +97,9 @@ fn libraries(alloc: Global, documents: &[Document]) -> Result<List<Dylib>, Memor
 }
 
 // The libraries of documents with which nothing is wrong.
-#[tactic(auto, unfolding(crate::specs::Text::tbd_of))]
+#[tactic(auto, unfolding(crate::specs::Text::tbd_of), using(crate::proofs::Documents::first_right, crate::proofs::Documents::others_right))]
 fn tbd_of(alloc: Global, documents: &[Document]) -> Result<Tbd, TbdCause>
+    requires { first_of document_fault documents.now ≡ None }
     ensures { UnlessMemory TbdCause.Memory result (tbd_of documents.now) }
 {
     match documents {
