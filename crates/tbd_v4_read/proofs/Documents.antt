@@ -1,5 +1,5 @@
 -- Documents with which nothing is wrong, one by one.
-use Rattle.std.proofs.Common.{◌≡◌, ℕ, zero, suc, ◌<◌, List, [], ◌∷◌, length, get_or, Option, None, refl, sym, ap, ◌∙◌, subst, arith}
+use Rattle.std.proofs.Common.{◌≡◌, ℕ, zero, suc, ◌<◌, List, [], ◌∷◌, length, get_or, Option, None, ap, ◌∙◌, arith}
 use Rattle.yaml_maps.specs.Maps.{first_of}
 use Rattle.tbd_v4_read.proofs.Gathered.{option_or_none}
 

@@ -1,8 +1,7 @@
 -- What holds of the maps of a library with which nothing is wrong.
 use Rattle.std.proofs.Common.{◌≡◌, ℕ, Bool, true, false, cond, ◌||◌, List, [], ◌∷◌, map, Option, Some, None, refl, sym, ap, ◌∙◌, subst}
 use Rattle.std.specs.Prelude.{is_some, unwrap_or, option_map, option_and_then, codes}
-use Rattle.std.specs.List.{find, list_any}
-use Rattle.std.specs.Option.{option_or}
+use Rattle.std.specs.List.{find}
 use Rattle.std.proofs.lemmas.Bool.{false≢true}
 use Rattle.std.proofs.lemmas.Option.{none-some}
 use Rattle.std.specs.Cmp.Lexicographic.{nat_list_eq_equiv}
@@ -21,7 +20,7 @@ use Rattle.tbd_v4_read.specs.declared.keys.GroupKind.{GroupKind}
 use Rattle.tbd_v4_read.specs.declared.keys.GroupKind.TheVariants.{Umbrella, Clients, Libraries, Symbols}
 use Rattle.tbd_v4_read.specs.Keys.{key_cause, library_keys, library_needs, library_keys_fault, group_kind, group_keys, group_needs, group_keys_fault, items_at, map_entries, sequence_of}
 use Rattle.tbd_v4_read.specs.Values.{name_in, some_names, are_group_targets, different_names, are_library_targets, holds_in}
-use Rattle.tbd_v4_read.specs.Faults.{is_group_value, group_value_fault, group_map_fault, group_fault_by, group_fault, groups_fault_by, groups_fault, value_fault_by, value_fault, unknown_at_by, unknown_at, unknown_in, unknown_in_group, is_single_value}
+use Rattle.tbd_v4_read.specs.Faults.{is_group_value, group_value_fault, group_map_fault, group_fault_by, group_fault, groups_fault_by, groups_fault, value_fault_by, value_fault, unknown_at_by, unknown_at, unknown_in_group, is_single_value}
 use Rattle.tbd_v4_read.specs.Library.{install_name}
 use Rattle.tbd_v4_read.proofs.Gathered.{passes, good_name, option_or_none}
 

@@ -1,9 +1,9 @@
 -- What is gathered of groups with which nothing is wrong fits: proper names, said for one target or more of the library's.
-use Rattle.std.proofs.Common.{◌≡◌, ℕ, ◌+◌, ◌<◌, Bool, true, false, cond, not, ◌&&◌, ◌||◌, List, [], ◌∷◌, ◌++◌, length, nat_lt, Option, Some, None, refl, sym, ap, ◌∙◌, subst, arith}
+use Rattle.std.proofs.Common.{◌≡◌, ℕ, ◌+◌, ◌<◌, Bool, true, false, cond, not, ◌||◌, List, [], ◌∷◌, ◌++◌, length, nat_lt, Option, Some, None, refl, sym, ap, ◌∙◌, arith}
 use Rattle.std.specs.Prelude.{is_some, position, unwrap_or, option_map, option_and_then}
-use Rattle.std.specs.List.{position_or_len, list_all, list_any, filter_map, cons_option, flat_map}
+use Rattle.std.specs.List.{position_or_len, list_all, list_any, filter_map, cons_option}
 use Rattle.std.specs.Option.{option_or, option_to_list}
-use Rattle.std.proofs.lemmas.Bool.{and_parts, and_from, or_right, false≢true}
+use Rattle.std.proofs.lemmas.Bool.{and_parts, and_from, false≢true}
 use Rattle.std.proofs.lemmas.Option.{none-some}
 use Rattle.std.proofs.lemmas.Bool.Decides.{nat_tests}
 use Rattle.std.proofs.lemmas.List.Folds.{list_all-append}
@@ -11,14 +11,11 @@ use Rattle.std.proofs.lemmas.List.Quantifiers.{position-Some}
 use Rattle.ifs_interface.specs.Triple.{same_name}
 use Rattle.ifs_interface.specs.Interface.{is_proper_name}
 use Rattle.yaml_nodes.specs.declared.node.Node.{Node}
-use Rattle.yaml_nodes.specs.declared.node.Entry.{Entry}
 use Rattle.yaml_nodes.specs.Nodes.{text_of}
 use Rattle.yaml_maps.specs.Maps.{first_of}
 use Rattle.tbd_core.specs.declared.symbol.Section.{Section}
 use Rattle.tbd_core.specs.declared.symbol.SymbolKind.{SymbolKind}
-use Rattle.tbd_core.specs.declared.symbol.TbdSymbol.{TbdSymbol}
 use Rattle.tbd_core.specs.declared.dylib.TbdTarget.{TbdTarget}
-use Rattle.tbd_core.specs.declared.cause.TbdCause.{TbdCause}
 use Rattle.tbd_core.specs.declared.cause.TbdCause.TheVariants.{UnknownTarget}
 use Rattle.tbd_core.specs.Places.{place_of}
 use Rattle.tbd_core.specs.Normal.{is_some_list}

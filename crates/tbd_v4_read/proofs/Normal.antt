@@ -1,5 +1,5 @@
 -- What a library says is in normal form, where nothing is wrong with it.
-use Rattle.std.proofs.Common.{◌≡◌, ℕ, zero, suc, ◌+◌, ◌-◌, ◌<◌, ◌≤◌, Bool, true, false, cond, not, ◌||◌, ◌&&◌, List, [], ◌∷◌, ◌++◌, length, nat_lt, Option, Some, None, refl, sym, ap, ◌∙◌, arith}
+use Rattle.std.proofs.Common.{◌≡◌, ℕ, zero, suc, ◌+◌, ◌-◌, ◌<◌, ◌≤◌, Bool, true, false, not, ◌&&◌, List, [], ◌∷◌, ◌++◌, length, nat_lt, Option, Some, None, refl, sym, ap, ◌∙◌, arith}
 use Rattle.std.specs.Prelude.{is_some, option_map, option_and_then, codes}
 use Rattle.std.specs.List.{list_all, list_any, filter_map, cons_option, flat_map, range_with_len}
 use Rattle.std.specs.Option.{option_or}
@@ -16,7 +16,6 @@ use Rattle.tbd_core.specs.declared.symbol.Section.{Section}
 use Rattle.tbd_core.specs.declared.symbol.Section.TheVariants.{Exported, Reexported, Undefined}
 use Rattle.tbd_core.specs.declared.symbol.SymbolKind.{SymbolKind}
 use Rattle.tbd_core.specs.declared.symbol.SymbolKind.TheVariants as kinds
-use Rattle.tbd_core.specs.declared.symbol.TbdSymbol.{TbdSymbol}
 use Rattle.tbd_core.specs.declared.dylib.TbdTarget.{TbdTarget}
 use Rattle.tbd_core.specs.declared.dylib.DylibParts.{DylibParts}
 use Rattle.tbd_core.specs.declared.dylib.DylibField.TheVariants as field
@@ -25,8 +24,8 @@ use Rattle.tbd_v4_read.specs.declared.keys.GroupKind.{GroupKind}
 use Rattle.tbd_v4_read.specs.declared.keys.GroupKind.TheVariants.{Umbrella, Clients, Libraries, Symbols}
 use Rattle.tbd_v4_read.specs.Keys.{library_keys_fault, group_kind, items_at, map_entries}
 use Rattle.tbd_v4_read.specs.Values.{name_in, all_names, some_names, stands_again, stands_in, all_differ, different_names}
-use Rattle.tbd_v4_read.specs.Faults.{group_fault, value_fault, version_fault, unknown_in, unknown_in_group, unknown_at, unknown_target, values_fault, library_fault}
-use Rattle.tbd_v4_read.specs.Library.{target, target_in, targets_of, place_in, places_of, symbol, symbol_in, listed, umbrella_of, objc_symbols, symbols_of, names_of_group, names_in_group, names_at, flags_of, umbrellas_of, clients_of, reexported_of, sectioned, names_once, install_name, parts_with, parts_of}
+use Rattle.tbd_v4_read.specs.Faults.{group_fault, value_fault, version_fault, unknown_in_group, unknown_at, unknown_target, values_fault, library_fault}
+use Rattle.tbd_v4_read.specs.Library.{target, target_in, targets_of, places_of, symbol, symbol_in, listed, umbrella_of, objc_symbols, symbols_of, names_of_group, names_in_group, names_at, flags_of, umbrellas_of, clients_of, reexported_of, sectioned, names_once, install_name, parts_with}
 use Rattle.tbd_v4_read.proofs.Ascend.{fit}
 use Rattle.tbd_v4_read.proofs.UnitedNormal.{fits, is_plain, symbols_normal, names_normal}
 use Rattle.tbd_v4_read.proofs.Gathered.{passes, all_given, both_pass, one_passes, good_name, symbol_fits, places_fit, stands_is, is_there, text_is, option_or_none}

@@ -1,6 +1,6 @@
 -- Symbols that are united are in normal form.
-use Rattle.std.proofs.Common.{◌≡◌, ℕ, ◌==◌, Bool, true, false, cond, ◌&&◌, List, [], ◌∷◌, map, filter, refl, sym, ap, ◌∙◌, subst}
-use Rattle.std.specs.List.{list_all, list_any}
+use Rattle.std.proofs.Common.{◌≡◌, ℕ, ◌==◌, Bool, true, false, cond, ◌&&◌, List, [], ◌∷◌, map, filter, refl, sym, ap, ◌∙◌}
+use Rattle.std.specs.List.{list_all}
 use Rattle.std.proofs.lemmas.Bool.{and_parts, and_from, or_right, eqb-true, false≢true}
 use Rattle.std.proofs.lemmas.List.Folds.{list_all-map}
 use Rattle.ifs_interface.specs.Triple.{same_name}
@@ -16,7 +16,7 @@ use Rattle.tbd_core.specs.declared.dylib.Named.{Named}
 use Rattle.tbd_core.specs.Keys.{section_rank, kind_rank, part_rank, key_of}
 use Rattle.tbd_core.specs.Groups.{of_key, grouped}
 use Rattle.tbd_core.specs.Union.{union, united_symbol, united}
-use Rattle.tbd_core.specs.Normal.{rise, comes_first, is_symbol, are_symbols, is_named, are_names, are_places}
+use Rattle.tbd_core.specs.Normal.{rise, is_symbol, are_symbols, is_named, are_names, are_places}
 use Rattle.tbd_v4_read.specs.Library.{named, names_once}
 use Rattle.tbd_v4_read.proofs.Ascend.{fit, union_fits}
 

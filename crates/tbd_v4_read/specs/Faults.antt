@@ -1,6 +1,6 @@
 -- The first thing that is wrong with a library: its keys, the version, the values in text order, and then a target of a
 -- group that the library hasn't.
-use Rattle.std.specs.Prelude.{ℕ, Bool, true, List, [], ◌∷◌, Option, Some, None, is_some, if◌then◌else◌, codes}
+use Rattle.std.specs.Prelude.{ℕ, Bool, true, List, Option, Some, None, is_some, if◌then◌else◌, codes}
 use Rattle.std.specs.Option.{option_or}
 use Rattle.ifs_interface.specs.Triple.{same_name}
 use Rattle.yaml_nodes.specs.declared.node.Node.{Node}

@@ -1,6 +1,5 @@
 -- The maps of a text, and their keys.
 use Rattle.std.specs.Prelude.{ℕ, List, [], ◌∷◌, Option, Some, None, if◌then◌else◌, option_map, option_and_then, unwrap_or, codes}
-use Rattle.std.specs.List.{filter_map}
 use Rattle.ifs_interface.specs.Triple.{same_name}
 use Rattle.yaml_nodes.specs.declared.node.Node.{Node}
 use Rattle.yaml_nodes.specs.declared.node.Entry.{Entry}

@@ -1,5 +1,5 @@
 -- What a library says, where nothing is wrong with it: a key that is missing says nothing.
-use Rattle.std.specs.Prelude.{ℕ, List, [], ◌∷◌, ◌++◌, map, length, Option, Some, None, unwrap_or, option_map, option_and_then, codes}
+use Rattle.std.specs.Prelude.{ℕ, List, [], ◌++◌, map, length, Option, None, unwrap_or, option_map, option_and_then, codes}
 use Rattle.std.specs.List.{filter_map, flat_map}
 use Rattle.std.specs.Option.{option_to_list}
 use Rattle.ifs_bytes.specs.Places.{places}
