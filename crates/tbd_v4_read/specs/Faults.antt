@@ -1,5 +1,5 @@
--- The first thing that is wrong with a library: its keys, the version, the values in text order, and then a target of a
--- group that the library hasn't.
+-- The first thing that is wrong with a library: its keys, the version, the values in text order, and then a
+-- target of a group that the library hasn't.
 use Rattle.std.specs.Prelude.{ℕ, Bool, true, List, Option, Some, None, is_some, if◌then◌else◌, codes}
 use Rattle.std.specs.Option.{option_or}
 use Rattle.ifs_interface.specs.Triple.{same_name}
@@ -87,7 +87,8 @@ unfoldable pub unknown_in : List Node → Node → Option TbdCause
 unknown_in targets item = unknown_by targets (text_of item)
 
 unfoldable pub unknown_in_group : List Node → Node → Option TbdCause
-unknown_in_group targets group = first_of (unknown_in targets) (items_at (codes "targets") (map_entries group))
+unknown_in_group targets group =
+    first_of (unknown_in targets) (items_at (codes "targets") (map_entries group))
 
 abbrev pub unknown_at_by : List Node → Node → Option GroupKind → Option TbdCause
 unknown_at_by targets value None = None
@@ -106,4 +107,5 @@ unfoldable pub values_fault : List Entry → Option TbdCause
 values_fault entries = option_or (first_of value_fault entries) (unknown_target entries)
 
 unfoldable pub library_fault : List Entry → Option TbdCause
-library_fault entries = option_or (library_keys_fault entries) (option_or (version_fault entries) (values_fault entries))
+library_fault entries =
+    option_or (library_keys_fault entries) (option_or (version_fault entries) (values_fault entries))

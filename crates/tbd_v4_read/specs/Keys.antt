@@ -15,9 +15,10 @@ use Rattle.tbd_v4_read.specs.declared.keys.GroupKind.TheVariants.{Umbrella, Clie
 -- the keys of a library
 unfoldable pub library_keys : List (List ℕ)
 library_keys =
-    codes "tbd-version" ∷ codes "targets" ∷ codes "uuids" ∷ codes "flags" ∷ codes "install-name" ∷ codes "current-version"
-    ∷ codes "compatibility-version" ∷ codes "swift-abi-version" ∷ codes "parent-umbrella" ∷ codes "allowable-clients"
-    ∷ codes "reexported-libraries" ∷ codes "exports" ∷ codes "reexports" ∷ codes "undefineds" ∷ []
+    codes "tbd-version" ∷ codes "targets" ∷ codes "uuids" ∷ codes "flags" ∷ codes "install-name"
+    ∷ codes "current-version" ∷ codes "compatibility-version" ∷ codes "swift-abi-version"
+    ∷ codes "parent-umbrella" ∷ codes "allowable-clients" ∷ codes "reexported-libraries"
+    ∷ codes "exports" ∷ codes "reexports" ∷ codes "undefineds" ∷ []
 
 -- those that it needs; the version is looked for by itself
 unfoldable pub library_needs : List (List ℕ)
@@ -40,8 +41,8 @@ group_keys Umbrella = codes "targets" ∷ codes "umbrella" ∷ []
 group_keys Clients = codes "targets" ∷ codes "clients" ∷ []
 group_keys Libraries = codes "targets" ∷ codes "libraries" ∷ []
 group_keys Symbols =
-    codes "targets" ∷ codes "symbols" ∷ codes "objc-classes" ∷ codes "objc-eh-types" ∷ codes "objc-ivars" ∷ codes "weak-symbols"
-    ∷ codes "thread-local-symbols" ∷ []
+    codes "targets" ∷ codes "symbols" ∷ codes "objc-classes" ∷ codes "objc-eh-types" ∷ codes "objc-ivars"
+    ∷ codes "weak-symbols" ∷ codes "thread-local-symbols" ∷ []
 
 -- those that it needs
 unfoldable pub group_needs : GroupKind → List (List ℕ)

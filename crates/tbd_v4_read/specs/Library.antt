@@ -46,7 +46,13 @@ places_of targets group = filter_map (place_in targets) (items_at (codes "target
 
 -- a name that is said for targets
 abbrev pub symbol : Section → SymbolKind → List ℕ → List ℕ → TbdSymbol
-symbol section kind targets name = record { section = section; kind = kind; segment = Any; name = name; targets = targets }
+symbol section kind targets name = record {
+  section = section;
+  kind = kind;
+  segment = Any;
+  name = name;
+  targets = targets;
+}
 
 unfoldable pub symbol_in : Section → SymbolKind → List ℕ → Node → Option TbdSymbol
 symbol_in section kind targets item = option_map (symbol section kind targets) (name_in item)
@@ -58,7 +64,8 @@ listed section kind targets key group = filter_map (symbol_in section kind targe
 -- the name of an umbrella
 unfoldable pub umbrella_of : Section → List ℕ → List Entry → List TbdSymbol
 umbrella_of section targets group =
-    option_to_list (option_and_then (symbol_in section kinds.Global targets) (value_at (codes "umbrella") group))
+    option_to_list
+    (option_and_then (symbol_in section kinds.Global targets) (value_at (codes "umbrella") group))
 
 -- the symbols of Objective-C
 unfoldable pub objc_symbols : Section → List ℕ → List Entry → List TbdSymbol
@@ -88,7 +95,8 @@ names_in_group kind section targets group =
 
 -- the names of all groups of a key
 unfoldable pub names_at : GroupKind → Section → List ℕ → List TbdTarget → List Entry → List TbdSymbol
-names_at kind section key targets entries = flat_map (names_in_group kind section targets) (items_at key entries)
+names_at kind section key targets entries =
+    flat_map (names_in_group kind section targets) (items_at key entries)
 
 abbrev pub named : TbdSymbol → Named
 named symbol = record { name = symbol.name; targets = symbol.targets }
@@ -99,16 +107,20 @@ names_once names = map named (united names)
 
 -- flags are said for all targets
 unfoldable pub flags_of : List TbdTarget → List Entry → List Named
-flags_of targets entries = names_once (listed Exported kinds.Global (places 0 (length targets)) (codes "flags") entries)
+flags_of targets entries =
+    names_once (listed Exported kinds.Global (places 0 (length targets)) (codes "flags") entries)
 
 unfoldable pub umbrellas_of : List TbdTarget → List Entry → List Named
-umbrellas_of targets entries = names_once (names_at Umbrella Exported (codes "parent-umbrella") targets entries)
+umbrellas_of targets entries =
+    names_once (names_at Umbrella Exported (codes "parent-umbrella") targets entries)
 
 unfoldable pub clients_of : List TbdTarget → List Entry → List Named
-clients_of targets entries = names_once (names_at Clients Exported (codes "allowable-clients") targets entries)
+clients_of targets entries =
+    names_once (names_at Clients Exported (codes "allowable-clients") targets entries)
 
 unfoldable pub reexported_of : List TbdTarget → List Entry → List Named
-reexported_of targets entries = names_once (names_at Libraries Exported (codes "reexported-libraries") targets entries)
+reexported_of targets entries =
+    names_once (names_at Libraries Exported (codes "reexported-libraries") targets entries)
 
 -- the symbols of all sections
 unfoldable pub sectioned : List TbdTarget → List Entry → List TbdSymbol

@@ -266,8 +266,8 @@ fn values_fault<'a>(entries: &'a [Entry<'_>]) -> Option<Fault<'a>>
     }
 }
 
-/// The first thing that is wrong with a library: its keys, the version of the format, the values in text order, and
-/// then a target of a group that the library hasn't. Takes no memory.
+/// The first thing that is wrong with a library: its keys, the version of the format, the values in text
+/// order, and then a target of a group that the library hasn't. Takes no memory.
 #[tactic(auto, unfolding(crate::specs::Faults::library_fault))]
 pub(crate) fn library_fault<'a>(entries: &'a [Entry<'_>]) -> Option<Fault<'a>>
     ensures { result ≡ library_fault entries.now }

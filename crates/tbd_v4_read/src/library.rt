@@ -59,7 +59,8 @@ fn place_in(targets: &[TbdTarget], item: &Node) -> Option<u64>
 
 // Appends the position of the target that a node names.
 fn push_place(places: &mut Vec<u64>, targets: &[TbdTarget], item: &Node) -> Result<(), Memory>
-    ensures { OnOk result (places.new.items ≡ places.old.items ++ option_to_list (place_in targets.now item.now)) }
+    ensures { OnOk result (places.new.items ≡ places.old.items
+        ++ option_to_list (place_in targets.now item.now)) }
 {
     if let Some(place) = place_in(targets, item) {
         places.push(place)?;
@@ -123,7 +124,8 @@ fn push_name(
     kind: SymbolKind,
     item: &Node,
 ) -> Result<(), Memory>
-    ensures { OnOk result (names.new.items ≡ names.old.items ++ option_to_list (symbol_in said.now.section kind said.now.targets.now item.now)) }
+    ensures { OnOk result (names.new.items ≡ names.old.items
+        ++ option_to_list (symbol_in said.now.section kind said.now.targets.now item.now)) }
 {
     if let Some(name) = name_in(item) {
         names.push(symbol(alloc, said, kind, name)?)?;
@@ -139,7 +141,8 @@ fn push_names(
     kind: SymbolKind,
     items: &[Node],
 ) -> Result<(), Memory>
-    ensures { OnOk result (names.new.items ≡ names.old.items ++ filter_map (symbol_in said.now.section kind said.now.targets.now) items.now) }
+    ensures { OnOk result (names.new.items ≡ names.old.items
+        ++ filter_map (symbol_in said.now.section kind said.now.targets.now) items.now) }
 {
     for item in items {
         push_name(alloc, names, said, kind, item)?;
@@ -157,7 +160,8 @@ fn push_listed(
     group: &[Entry],
     key: &[u8],
 ) -> Result<(), Memory>
-    ensures { OnOk result (names.new.items ≡ names.old.items ++ listed said.now.section kind said.now.targets.now key.now group.now) }
+    ensures { OnOk result (names.new.items ≡ names.old.items
+        ++ listed said.now.section kind said.now.targets.now key.now group.now) }
 {
     push_names(alloc, names, said, kind, items_at(group, key))
 }
@@ -170,7 +174,8 @@ fn push_umbrella(
     said: &Said,
     group: &[Entry],
 ) -> Result<(), Memory>
-    ensures { OnOk result (names.new.items ≡ names.old.items ++ umbrella_of said.now.section said.now.targets.now group.now) }
+    ensures { OnOk result (names.new.items ≡ names.old.items
+        ++ umbrella_of said.now.section said.now.targets.now group.now) }
 {
     match value_at(group, b"umbrella") {
         Some(value) => push_name(alloc, names, said, SymbolKind::Global, value),
@@ -186,7 +191,8 @@ fn push_objc(
     said: &Said,
     group: &[Entry],
 ) -> Result<(), Memory>
-    ensures { OnOk result (names.new.items ≡ names.old.items ++ objc_symbols said.now.section said.now.targets.now group.now) }
+    ensures { OnOk result (names.new.items ≡ names.old.items
+        ++ objc_symbols said.now.section said.now.targets.now group.now) }
 {
     push_listed(
         alloc,
@@ -223,7 +229,8 @@ fn push_symbols(
     said: &Said,
     group: &[Entry],
 ) -> Result<(), Memory>
-    ensures { OnOk result (names.new.items ≡ names.old.items ++ symbols_of said.now.section said.now.targets.now group.now) }
+    ensures { OnOk result (names.new.items ≡ names.old.items
+        ++ symbols_of said.now.section said.now.targets.now group.now) }
 {
     push_listed(alloc, names, said, SymbolKind::Global, group, b"symbols")?;
     push_objc(alloc, names, said, group)?;
@@ -247,7 +254,8 @@ fn push_group_names(
     said: &Said,
     group: &[Entry],
 ) -> Result<(), Memory>
-    ensures { OnOk result (names.new.items ≡ names.old.items ++ names_of_group kind said.now.section said.now.targets.now group.now) }
+    ensures { OnOk result (names.new.items ≡ names.old.items
+        ++ names_of_group kind said.now.section said.now.targets.now group.now) }
 {
     match kind {
         GroupKind::Umbrella => push_umbrella(alloc, names, said, group),
@@ -271,7 +279,8 @@ fn push_group(
     targets: &[TbdTarget],
     item: &Node,
 ) -> Result<(), Memory>
-    ensures { OnOk result (names.new.items ≡ names.old.items ++ names_in_group kind section targets.now item.now) }
+    ensures { OnOk result (names.new.items ≡ names.old.items
+        ++ names_in_group kind section targets.now item.now) }
 {
     let group = map_entries(item);
     let places = places_of(alloc, targets, group)?;
@@ -291,7 +300,8 @@ fn push_groups(
     targets: &[TbdTarget],
     items: &[Node],
 ) -> Result<(), Memory>
-    ensures { OnOk result (names.new.items ≡ names.old.items ++ flat_map (names_in_group kind section targets.now) items.now) }
+    ensures { OnOk result (names.new.items ≡ names.old.items
+        ++ flat_map (names_in_group kind section targets.now) items.now) }
 {
     for item in items {
         push_group(alloc, names, kind, section, targets, item)?;
@@ -338,7 +348,8 @@ fn names_of_key(
     entries: &[Entry],
     key: &[u8],
 ) -> Result<List<Named>, Memory>
-    ensures { IfOk result (λ once. once ≡ names_once (names_at kind section.Exported key.now targets.now entries.now)) }
+    ensures { IfOk result (λ once. once ≡
+        names_once (names_at kind section.Exported key.now targets.now entries.now)) }
 {
     let mut names = Vec::new(alloc);
     let items = items_at(entries, key);
@@ -429,7 +440,8 @@ fn push_section(
     entries: &[Entry],
     key: &[u8],
 ) -> Result<(), Memory>
-    ensures { OnOk result (symbols.new.items ≡ symbols.old.items ++ names_at kind.Symbols section key.now targets.now entries.now) }
+    ensures { OnOk result (symbols.new.items ≡ symbols.old.items
+        ++ names_at kind.Symbols section key.now targets.now entries.now) }
 {
     let items = items_at(entries, key);
     push_groups(alloc, symbols, GroupKind::Symbols, section, targets, items)

@@ -125,11 +125,12 @@ fn tbd_in(alloc: Global, documents: &[Document]) -> Result<Tbd, TbdCause>
     }
 }
 
-/// The libraries that a text is, the first document's and those of the others, or the first cause why it is none: Yaml,
-/// what is wrong with it as YAML; NotTbd, there is no document, or one of them lacks the tag `!tapi-tbd` or isn't a
-/// map; then document by document UnknownKey, RepeatedKey, MissingKey; BadVersion; what is wrong with the values in
-/// text order, of a group UnknownKey, RepeatedKey, MissingKey, then its values, else BadValue of the key;
-/// UnknownTarget, the first target of a group that the library hasn't.
+/// The libraries that a text is, that of the first document and those of the others, or the first cause why
+/// it is none: Yaml, what is wrong with it as YAML; NotTbd, there is no document, or one of them lacks the
+/// tag `!tapi-tbd` or isn't a map; then document by document UnknownKey, RepeatedKey, then MissingKey;
+/// BadVersion; what is wrong with the values in text order, of a group UnknownKey, RepeatedKey, then
+/// MissingKey, then its values, else BadValue of the key; UnknownTarget, the first target of a group that the
+/// library hasn't.
 ///
 /// Public source: TBD v4 of LLVM's TextAPI; docs/format/tbd.md has the rules.
 #[tactic(auto, unfolding(crate::specs::Text::read_tbd))]

@@ -21,7 +21,8 @@ fn whole_texts(rt: HostRuntime) -> Result<(), Fail> {
             b"MissingKey(targets)",
         ),
         (
-            b"--- !tapi-tbd\ntargets: [x]\ninstall-name: a\ntbd-version: 4\nexports: [{targets: [y]}]\n--- !tapi-tbd\n{}\n",
+            b"--- !tapi-tbd\ntargets: [x]\ninstall-name: a\ntbd-version: 4\nexports: [{targets: [y]}]\n\
+--- !tapi-tbd\n{}\n",
             b"UnknownTarget(y)",
         ),
     ];
@@ -107,7 +108,8 @@ fn libraries(rt: HostRuntime) -> Result<(), Fail> {
             b"BadValue(flags)",
         ),
         (
-            b"undefineds: [{targets: [x]}, {targets: [x, z]}]\ntbd-version: 4\nreexported-libraries: [{targets: [y]}]\ntargets: [x]\ninstall-name: a",
+            b"undefineds: [{targets: [x]}, {targets: [x, z]}]\ntbd-version: 4\n\
+reexported-libraries: [{targets: [y]}]\ntargets: [x]\ninstall-name: a",
             b"UnknownTarget(z)",
         ),
     ];
