@@ -43,6 +43,8 @@ const LIBRARY_NEEDS: [&[u8]; 2] = [b"targets", b"install-name"];
 
 const UMBRELLA_KEYS: [&[u8]; 2] = [b"targets", b"umbrella"];
 
+const UMBRELLA_NEEDS: [&[u8]; 2] = [b"targets", b"umbrella"];
+
 const CLIENTS_KEYS: [&[u8]; 2] = [b"targets", b"clients"];
 
 const LIBRARIES_KEYS: [&[u8]; 2] = [b"targets", b"libraries"];
@@ -57,7 +59,7 @@ const SYMBOLS_KEYS: [&[u8]; 7] = [
     b"thread-local-symbols",
 ];
 
-const TARGETS: [&[u8]; 1] = [b"targets"];
+const GROUP_NEEDS: [&[u8]; 1] = [b"targets"];
 
 /// The groups that a key of a library has.
 pub(crate) fn group_kind(key: &[u8]) -> Option<GroupKind>
@@ -95,10 +97,10 @@ fn group_needs(kind: GroupKind) -> &'static [&'static [u8]]
     ensures { texts result.now ≡ group_needs kind }
 {
     match kind {
-        GroupKind::Umbrella => &UMBRELLA_KEYS,
-        GroupKind::Clients => &TARGETS,
-        GroupKind::Libraries => &TARGETS,
-        GroupKind::Symbols => &TARGETS,
+        GroupKind::Umbrella => &UMBRELLA_NEEDS,
+        GroupKind::Clients => &GROUP_NEEDS,
+        GroupKind::Libraries => &GROUP_NEEDS,
+        GroupKind::Symbols => &GROUP_NEEDS,
     }
 }
 
