@@ -1,0 +1,4 @@
+pub mod AllRows
+pub mod Alone
+pub mod Named
+pub mod Turns

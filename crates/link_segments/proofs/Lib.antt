@@ -1,0 +1,4 @@
+pub mod AllRows
+pub mod Counted
+pub mod Ends
+pub mod Executed
